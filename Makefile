@@ -12,16 +12,17 @@ run:
 	@echo "trial build: nothing is proved (make build proves the program)"
 	cd crates/islec && rt try --data first.isle=../../examples/first.isle -- run first.isle < ../../examples/first.queries
 
-# Proves the program and builds it, from nothing half an hour or more. `rt run` answers a query file too, here an empty one.
+# Proves the program and builds it, from nothing about as long as the gate. `rt run` answers a query file too, here an empty one.
 build:
 	@echo "every proof of the program and of the crates below it: this takes a while"
 	cd crates/islec && rt run -- run ../../examples/first.isle < /dev/null
 
-# The gate: rules of this repository, that the wrong bodies of tests/edits were refused on just this text, every proof, and the proved program's
-# commands and vectors.
+# The gate: rules of this repository, that the wrong bodies of tests/edits were refused on just this text, every proof, some of the wrong bodies once
+# more, and the proved program's commands and vectors.
 test: lint
 	tools/edits.py --known
 	tools/gate.py
+	$(MAKE) some
 	$(MAKE) commands
 
 # What needs no judgement, and the tests of what judges.
@@ -61,7 +62,7 @@ fuzz:
 edits:
 	tools/edits.py $(ALL) $(CRATES)
 
-# One wrong body of each crate, which the commit's name chooses, over what `rt ci` built; not of the gate.
+# One wrong body of each library, which the commit's name chooses, over what `rt ci` built.
 some:
 	tools/some.py --rooms=$$(nproc)
 

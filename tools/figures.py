@@ -75,7 +75,7 @@ def minutes():
     row = lambda name, it: f"| {name} | {it['processor']:.1f} | {it['wall']:.1f} |"
     rows = ["| Crate | Processor minutes | Wall clock |", "|---|---|---|"]
     rows += [row(f"`{it}`", run["crates"][it]) for it in crates() if it in run["crates"]]
-    return "\n".join([*rows, row("all", run["all"]), "", f"With {run['kit']}, {run['checks']} checks at a time."])
+    return "\n".join([*rows, row("all", run["all"]), "", " ".join([f"With {run['kit']}, {run['checks']} checks at a time.", *run.get("notes", [])])])
 
 
 def bounds():

@@ -1,5 +1,5 @@
 #!/usr/bin/env python3
-"""Tries one wrong body of each crate that has any, over what 'rt ci' just built: the prover must refuse it. Ends with 1 where one is not refused.
+"""Tries one wrong body of each crate that the list has, over what 'rt ci' just built: the prover must refuse it. Ends with 1 where one isn't refused.
 
 usage: tools/some.py [--rooms=N] [CRATE ..]            of the crates that are named, or of all crates
        tools/some.py --list [--rooms=N] [CRATE ..]     writes tests/edits/alone.txt anew: which wrong bodies can be judged so
@@ -56,6 +56,15 @@ def built(room, crate, below):
         shutil.copytree(f"crates/{name}/out/rlib", f"{room}/crates/{name}/out/rlib", copy_function=os.link)
 
 
+def mark_built(room, names):
+    """Marks the libraries of a room as built, since 'rt ci' leaves no such mark: without one each would be built again."""
+    for crate in stubs.load("rtlib.py").crates_below(os.path.abspath(room)):
+        mark = f"{crate.folder}/out/rlib/stamp"
+        if crate.name in names and not os.path.isfile(mark):
+            with open(mark, "w", encoding="utf-8") as it:
+                it.write(crate.stamp())
+
+
 def judged(crate, functions, changed_by, below):
     """What the prover says of functions of a crate, changed by some edits, over the libraries as they are built: they alone have code there."""
     with tempfile.TemporaryDirectory(prefix=".edits-", dir=".") as room:
@@ -64,6 +73,7 @@ def judged(crate, functions, changed_by, below):
             edits.put_in(room, changed_by)
         else:
             edits.fresh(room, crate)
+        mark_built(room, below[crate])
         stubs.stub_all_but(crate, f"{room}/crates/{crate}", {(file, name) for file, name, _ in functions})
         modules = sorted({file[len("src/") : -len(".rt")].replace("/", "::") for file, _, _ in functions})
         said, _ = edits.judged(room, crate, ["--allow-holes", *[word for it in modules for word in ("--only", it)]])

@@ -14,7 +14,7 @@ use Rattle.isle_values.specs.declared.queries.QueryFault.{QueryFault}
 use Rattle.isle_values.specs.declared.queries.QueryFault.TheVariants.{Q1, Q2, Q3, Q4, Memory}
 use Rattle.isle_calls.specs.Calls.Answers.{answers_in, name_of_term, IsEventOf, LeadsThrough}
 use Rattle.isle_program.specs.Meanings.{checked}
-use Rattle.isle_machine.specs.TreeCalls.{TellsByTree, BeginsByTree}
+use Rattle.isle_calls.specs.TreeCalls.{TellsByTree, BeginsByTree}
 use Rattle.isle_values.specs.Queries.{IsCallIn, RefusesText}
 
 -- what a host answers a constructor and an extractor that make no effects

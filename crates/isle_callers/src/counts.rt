@@ -1,14 +1,17 @@
 //! Tells what a text holds, for `make bench`: how many definitions it spells; at the word `types` how many types there are, builtin ones too; at
 //! `sets` and `trees` how many rule sets its rules make, and how many trees these; at `keys` how many different numbers stand on its lines.
-ghost use Rattle.std.specs.Prelude.{◌≡◌, IfOk};
+ghost use Rattle.std.specs.Prelude.{◌≡◌, All, IfOk};
+ghost use Rattle.isle_types.specs.declared.ids.TermId.{TermId};
 ghost use Rattle.isle_blocks.specs.DefinedSets.{AreDefined};
+ghost use Rattle.isle_blocks.specs.RuleSets.{RulesOverSites};
+ghost use Rattle.isle_blocks.specs.Trees.Promises.{IsCheckedSet};
 
-use isle_blocks::{Block, check, serialize};
+use isle_blocks::{Block, RuleSet, check, serialize};
 use isle_syntax::Refusal;
 use isle_syntax::lexer::Lexer;
 use isle_syntax::parser::parse;
 use isle_terms::{FromAst, TermEnv};
-use isle_types::{SortedMap, TypeEnv};
+use isle_types::{SortedMap, TermId, TypeEnv};
 use std::alloc::{AllocError, Global};
 use std::env::Args;
 use std::io::{self, Write};
@@ -65,39 +68,43 @@ fn environments(alloc: Global, text: &str) -> Result<(TypeEnv, TermEnv), AllocEr
     Ok((tyenv, termenv))
 }
 
-/// How many rule sets the rules of a text make.
-fn count_sets(alloc: Global, text: &str) -> Result<usize, AllocError> {
-    let (_, termenv) = environments(alloc, text)?;
-    let Ok(sets) = check(alloc, &termenv) else {
-        return Err(AllocError);
-    };
-    Ok(sets.len())
-}
-
-/// The trees of the rule sets of a text.
-fn trees(alloc: Global, text: &str) -> Result<Vec<Block>, AllocError> {
-    let (_, termenv) = environments(alloc, text)?;
-    let Ok(sets) = check(alloc, &termenv) else {
-        return Err(AllocError);
-    };
+/// The trees of rule sets.
+fn trees(alloc: Global, sets: &[(TermId, RuleSet)]) -> Result<Vec<Block>, AllocError>
+    requires { All (λ (set : TermId × RulesOverSites). IsCheckedSet set.1) sets.now }
+{
     let mut trees = Vec::new(alloc);
-    for set in &sets {
+    for set in sets {
         trees.push(serialize(alloc, &set.1)?)?;
     }
     Ok(trees)
 }
 
-/// How many trees they are.
-fn count_trees(alloc: Global, text: &str) -> Result<usize, AllocError> {
-    Ok(trees(alloc, text)?.len())
+/// How many rule sets rules make, or how many trees these.
+fn count_in(alloc: Global, termenv: &TermEnv, of_trees: bool) -> Result<usize, AllocError>
+    requires { AreDefined termenv.now }
+{
+    let Ok(sets) = check(alloc, termenv) else {
+        return Err(AllocError);
+    };
+    if !of_trees {
+        return Ok(sets.len());
+    }
+    let trees = trees(alloc, sets.as_slice())?;
+    Ok(trees.len())
+}
+
+/// How many rule sets the rules of a text make, or how many trees these.
+fn count_sets(alloc: Global, text: &str, of_trees: bool) -> Result<usize, AllocError> {
+    let (_, termenv) = environments(alloc, text)?;
+    count_in(alloc, &termenv, of_trees)
 }
 
 /// Writes the line of a word.
 fn tell<W: Write>(alloc: Global, word: &str, text: &str, output: &mut W) -> io::Result<()> {
     let counted = match word {
         "types" => count_types(alloc, text),
-        "sets" => count_sets(alloc, text).ok(),
-        "trees" => count_trees(alloc, text).ok(),
+        "sets" => count_sets(alloc, text, false).ok(),
+        "trees" => count_sets(alloc, text, true).ok(),
         "keys" => count_keys(alloc, text).ok(),
         _ => count(alloc, text),
     };

@@ -1,7 +1,7 @@
 //! The library from a caller's side: compiles the rules of a text, and prints what queries are answered by a host that computes and gives out
 //! registers.
 ghost use Rattle.std.specs.Prelude.{IfOk, string_bytes};
-ghost use Rattle.isle_machine.specs.TreeCalls.{IsCompiled};
+ghost use Rattle.isle_calls.specs.TreeCalls.{IsCompiled};
 ghost use Rattle.isle_callers.specs.Lines.{TellsReply};
 
 mod bytes;

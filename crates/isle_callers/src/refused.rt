@@ -56,7 +56,7 @@ fn outcome_of_trees(alloc: Global, name: &str) -> Result<Option<Tried>, AllocErr
         "template" => Ok(Some(texts::make_template(alloc)?)),
         "fill" => Ok(Some(texts::fill(alloc)?)),
         "tree" => Ok(Some(copies::of_rule(alloc)?)),
-        "environment" => Ok(Some(copies::of_environment(alloc)?)),
+        "environment" => Ok(Some(environments::copy_terms(alloc)?)),
         "value" => Ok(Some(copies::of_value(alloc)?)),
         "read" => Ok(Some(calls::read(alloc)?)),
         "call-plain" => Ok(Some(calls::call(alloc, true)?)),

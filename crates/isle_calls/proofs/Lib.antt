@@ -4,3 +4,7 @@ pub mod Places
 pub mod Stores
 -- Calls of terms, whichever road answers them.
 pub mod OpenCalls
+-- The plain road.
+pub mod PlainRoad
+-- The road over trees.
+pub mod TreeRoad

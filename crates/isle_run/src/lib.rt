@@ -3,12 +3,9 @@
 
 pub mod laws;
 
-pub use isle_calls::{Answer, Called, Choice, Effect};
-pub use isle_machine::{call, trace};
-pub use isle_plain::{call_plain, trace_plain};
+pub use isle_calls::{Answer, Called, Choice, Effect, call, call_plain, trace, trace_plain};
 pub use isle_program::{Program, Refused, TermId, TypeId, compile};
-pub use isle_reasons as reasons;
-pub use isle_tell::{place_text, spaces, trees_graph, trees_text, warnings};
+pub use isle_tell::{place_text, reasons, spaces, trees_graph, trees_text, warnings};
 pub use isle_values::{
     Node, QueryFault, Side, TableWorld, Value, ValueFault, World, WorldFault, has_type, is_blank,
     query,

@@ -1,6 +1,7 @@
-//! What a reader of rule files is told of a program: its trees, in words and as a graph, and warnings.
+//! What a reader of rule files is told of a program: its trees, in words and as a graph, warnings, and why something is refused.
 #![tactic(auto)]
 
+pub mod reasons;
 mod trees;
 pub mod warnings;
 

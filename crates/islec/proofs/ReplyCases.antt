@@ -23,6 +23,7 @@ use Rattle.isle_values.specs.Values.Lists.{IsListOf}
 use Rattle.isle_values.specs.Values.TextTokens.{AreTokensOf, alone, bare}
 use Rattle.islec.specs.declared.answer.Manner.{Manner}
 use Rattle.islec.specs.Reasons.{IsReason}
+use Rattle.islec.proofs.ReasonCases.{no_is_a_line}
 use Rattle.islec.specs.Replies.{Setting, Leads, IsReply, TellsRefused, no_text, blank, no_call, call, refused_line}
 use Rattle.islec.specs.Serving.{AreReplies}
 
@@ -39,10 +40,10 @@ abbrev by_rules : Manner
 by_rules = record { depth = 1; plain = true; steps = false; trace = false; coverage = false; unanswered = false; explain = false }
 
 abbrev counting : Program → Answers → Setting ℕ
-counting program answers = record { program = program; answers = answers; step = counts; manner = by_rules }
+counting program answers = record { program = program; files = []; answers = answers; step = counts; manner = by_rules }
 
 abbrev listing : Program → Answers → Setting (List (List ℕ))
-listing program answers = record { program = program; answers = answers; step = lists; manner = by_rules }
+listing program answers = record { program = program; files = []; answers = answers; step = lists; manner = by_rules }
 
 -- ---- effects
 
@@ -153,7 +154,7 @@ fourth_cause = ap (λ (digits : List ℕ). codes "refused " ++ (digits ++ codes 
 -- where no reasons are asked for the line stands alone, and it always may
 unreasoned : (told : List ℕ) → IsReason false told → told ≡ []
 unreasoned told (inl none) = none
-unreasoned told (inr (asked, (words, is))) = absurd (true≢false (sym asked))
+unreasoned told (inr (asked, (words, one, is))) = absurd (true≢false (sym asked))
 
 stands_alone : (lines : List ℕ) → TellsRefused false 4 lines → lines ≡ codes "refused 4\n"
 stands_alone lines (told, reason, is) = is ∙ ap (λ l. refused_line 4 ++ l) (unreasoned told reason) ∙ append-nil (refused_line 4) ∙ fourth_cause
@@ -163,7 +164,7 @@ may_stand_alone asked = ([], inl refl, sym (append-nil (refused_line 4) ∙ four
 
 -- where they are asked for it may have words below it, on one line
 with_words : TellsRefused true 4 (refused_line 4 ++ codes "  no\n")
-with_words = (codes "  no\n", inr (refl, (codes "no", refl)), refl)
+with_words = (codes "  no\n", inr (refl, (codes "no", no_is_a_line, refl)), refl)
 
 empty_is_passed_over : (p : Program) (a : Answers) (n : ℕ) → IsReply (counting p a) n [] [] false n
 empty_is_passed_over p a n = blank IsUtf8-nil no_tokens refl refl refl

@@ -1,7 +1,7 @@
 -- What is written of a call's parts, and what a refused or an answered query is written.
 use Rattle.isle_meaning.proofs.Calls.Beginnings.{plain_begins}
 use Rattle.isle_meaning.proofs.Machine.Beginnings.{machine_begins}
-use Rattle.isle_machine.specs.TreeCalls.{term_trees}
+use Rattle.isle_calls.specs.TreeCalls.{term_trees}
 use Rattle.isle_program.specs.Meanings.{checked}
 use Rattle.isle_program.specs.declared.program.Program.{Program}
 use Rattle.isle_calls.specs.declared.answer.Called.{Called}

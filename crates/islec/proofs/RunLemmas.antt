@@ -21,25 +21,28 @@ use Rattle.islec.proofs.RefusedFiles.{writes_faults, cuts_faults}
 module _ (files all : List SourceFile) (same : files ≡ all) (program : Program) (is : IsProgramOf files program)
     (world : SourceFile) (manner : Manner) (input left old new : Option (List ℕ)) where
   pub answers_by : (refused : Bool) (status : Status) (r : Result Status ServeFault)
-      → IfOk r (λ s. s ≡ status → AnswersIn program world manner input refused old new)
+      → IfOk r (λ s. s ≡ status → AnswersIn program files world manner input refused old new)
       → IfOk r (λ s. s ≡ status → WritesAnswers all world manner input refused old new)
   answers_by refused status (Err f) told = tt
-  answers_by refused status (Ok s) told = λ e. (program, subst (λ l. IsProgramOf l program) same is, told e)
+  answers_by refused status (Ok s) told = λ e.
+      (program, subst (λ l. IsProgramOf l program) same is, subst (λ l. AnswersIn program l world manner input refused old new) same (told e))
 
   pub tells_by : (r : Result Status ServeFault) → IfOk r (λ s. s ≡ TextsRefused → TellsWorld manner.explain program world old new)
       → IfOk r (λ s. s ≡ TextsRefused → WritesRefusal all world manner old new)
   tells_by (Err f) told = tt
   tells_by (Ok s) told = λ e. inr (program, subst (λ l. IsProgramOf l program) same is, told e)
 
-  pub cuts_by : (r : Result Status ServeFault) → IfErr r (λ f. f ≢ Memory → CutsIn program world manner input old new)
+  pub cuts_by : (r : Result Status ServeFault) → IfErr r (λ f. f ≢ Memory → CutsIn program files world manner input old new)
       → IfErr r (λ f. f ≢ Memory → CutsRun all world manner input old new)
   cuts_by (Ok s) told = tt
-  cuts_by (Err f) told = λ e. inl (program, subst (λ l. IsProgramOf l program) same is, told e)
+  cuts_by (Err f) told = λ e.
+      inl (program, subst (λ l. IsProgramOf l program) same is, subst (λ l. CutsIn program l world manner input old new) same (told e))
 
-  pub stops_by : (r : Result Status ServeFault) → IfErr r (λ f. f ≡ Memory → StopsIn program world manner input left old new)
+  pub stops_by : (r : Result Status ServeFault) → IfErr r (λ f. f ≡ Memory → StopsIn program files world manner input left old new)
       → IfErr r (λ f. f ≡ Memory → AnswersSome all world manner input left old new)
   stops_by (Ok s) told = tt
-  stops_by (Err f) told = λ e. inr (program, subst (λ l. IsProgramOf l program) same is, told e)
+  stops_by (Err f) told = λ e.
+      inr (program, subst (λ l. IsProgramOf l program) same is, subst (λ l. StopsIn program l world manner input left old new) same (told e))
 
 module _ (files all : List SourceFile) (refused : Refused) (report : Report) (old new : Option (List ℕ)) (is : refused ≡ Faults report)
     (same : files ≡ all)

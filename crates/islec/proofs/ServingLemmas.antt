@@ -13,8 +13,9 @@ use Rattle.islec.specs.declared.serve.Served.{Served}
 use Rattle.islec.specs.declared.serve.ServeFault.TheVariants.{Read, Write, Memory}
 use Rattle.isle_rules.specs.Values.{ValueTree, ValueTrees}
 use Rattle.isle_program.specs.declared.program.Program.{Program}
+use Rattle.isle_ast.specs.Positions.Files.{SourceFile}
 use Rattle.islec.specs.Replies.{Setting, setting_in, IsReply, LosesReply}
-use Rattle.islec.specs.Serving.{AreReplies, AreLinesOf, AreFirstLinesOf, WritesReplies, AnswersAll, AnswersFirst, AnswersCut, KeepsBack, KeepsFirst, GivesLines, some_refused, BreaksOff, IsCutShort, LosesNewline, WritesFirst}
+use Rattle.islec.specs.Serving.{AreReplies, AreLinesOf, AreFirstLinesOf, WritesReplies, AnswersAll, AnswersFirst, AnswersCut, KeepsBack, KeepsFirst, GivesLines, some_refused, BreaksOff, IsCutShort, LosesNewline, LosesNext, WritesFirst}
 use Rattle.islec.specs.Writing.{AppendsBeginning, ContinuesBy}
 use Rattle.islec.proofs.WritingLemmas.{whole_begins}
 use Rattle.islec.specs.Serving.{lines_of}
@@ -178,13 +179,13 @@ cuts setting before after input left old mid new kept refused serving (count, wr
   gives_first input left serving.lines serving.gives,
   serving.keeps.replies,
   cut_behind old mid new serving.keeps.out kept count serving.keeps.written wrote,
-  ([], inl refl),
+  inl refl,
 )
 
 -- what is kept back where the reading of lines breaks off
 pub stops : {V : Type 0} (setting : Setting V) (fault : ServeFault) (before reached after : V) (input middle left old new : Option (List ℕ))
     (kept part : List ℕ) (refused : Bool) → IsServing setting before input middle old new kept refused reached → Consumes middle left part
-    → BreaksOff setting fault part reached after → KeepsFirst setting fault before input left old new kept after
+    → BreaksOff setting fault middle left part reached after → KeepsFirst setting fault before input left old new kept after
 stops setting fault before reached after input middle left old new kept part refused serving rest breaks = (
   serving.lines,
   part,
@@ -195,23 +196,31 @@ stops setting fault before reached after input middle left old new kept part ref
   breaks,
 )
 
--- where answering breaks off at most a reply is lost
-break_loses : {V : Type 0} (setting : Setting V) (fault : ServeFault) (part : List ℕ) (reached after : V)
-    → BreaksOff setting fault part reached after → (line : List ℕ) × LosesReply setting reached line after
-break_loses setting Read part reached after (cut, same) = ([], inl same)
-break_loses setting Write part reached after breaks = absurd breaks
-break_loses setting Memory part reached after (cut, inl same) = ([], inl same)
-break_loses setting Memory part reached after (cut, inr (line, loses, lost)) = (line, lost)
+-- where answering breaks off at most the reply to the next line is lost
+break_loses : {V : Type 0} (setting : Setting V) (fault : ServeFault) (input behind left : Option (List ℕ)) (lines : List (List ℕ)) (part : List ℕ)
+    (reached after : V) → GivesLines input behind lines → BreaksOff setting fault behind left part reached after
+    → LosesNext setting input lines reached after
+break_loses setting Read input behind left lines part reached after gives (cut, same) = inl same
+break_loses setting Write input behind left lines part reached after gives breaks = absurd breaks
+break_loses setting Memory input behind left lines part reached after gives (cut, inl same) = inl same
+break_loses setting Memory input behind left lines part reached after gives (cut, inr (line, loses, next, lost)) =
+    inr (line, gives_first input left (lines ++ line ∷ []) (gives_more input behind left lines (line ∷ []) gives next), lost)
 
 -- replies to first lines of an input, of which an end is kept back and the others are written, and then at most a reply is lost
 abbrev pub KeepsSome : {V : Type 0} → Setting V → V → (input old new : Option (List ℕ)) → List ℕ → V → Type 0
 KeepsSome {V} setting before input old new kept after = (lines : List (List ℕ)) × (refused : Bool) × (reached : V) × AreFirstLinesOf input lines
-    × KeepsBack setting before lines refused old new kept reached × ((line : List ℕ) × LosesReply setting reached line after)
+    × KeepsBack setting before lines refused old new kept reached × LosesNext setting input lines reached after
 
 keeps_some : {V : Type 0} (setting : Setting V) (fault : ServeFault) (before after : V) (input left old new : Option (List ℕ)) (kept : List ℕ)
     → KeepsFirst setting fault before input left old new kept after → KeepsSome setting before input old new kept after
-keeps_some setting fault before after input left old new kept (lines, part, refused, reached, reads, keeps, breaks) =
-    (lines, refused, reached, gives_first input reads.behind lines reads.gives, keeps, break_loses setting fault part reached after breaks)
+keeps_some setting fault before after input left old new kept (lines, part, refused, reached, reads, keeps, breaks) = (
+  lines,
+  refused,
+  reached,
+  gives_first input reads.behind lines reads.gives,
+  keeps,
+  break_loses setting fault input reads.behind left lines part reached after reads.gives breaks,
+)
 
 all_first : (input : Option (List ℕ)) (lines : List (List ℕ)) → AreLinesOf input lines → AreFirstLinesOf input lines
 all_first None lines all = tt
@@ -225,7 +234,7 @@ pub holds : {V : Type 0} (setting : Setting V) (before after : V) (input left ol
     → IfErr r (λ fault. fault ≢ Write → KeepsFirst setting fault before input left old new kept after)
     → KeepsSome setting before input old new kept after
 holds setting before after input left old new kept (Ok served) never (lines, all, keeps) stopped =
-    (lines, some_refused served, after, all_first input lines all, keeps, ([], inl refl))
+    (lines, some_refused served, after, all_first input lines all, keeps, inl refl)
 holds setting before after input left old new kept (Err e) never answered stopped =
     keeps_some setting e before after input left old new kept (stopped (λ is. never (ap Err is)))
 
@@ -278,7 +287,7 @@ first_cut setting fault before after input left old new (lines, part, refused, r
   gives_first input reads.behind lines reads.gives,
   replies,
   whole_begins old new out wrote,
-  break_loses setting fault part reached after breaks,
+  break_loses setting fault input reads.behind left lines part reached after reads.gives breaks,
 )
 
 -- where a fault comes, a beginning of the replies is written, or all of them
@@ -289,44 +298,48 @@ cuts_at setting before after input left old new Write first cut = cut refl
 cuts_at setting before after input left old new Read first cut = first_cut setting Read before after input left old new (first (λ is. absurd cc))
 cuts_at setting before after input left old new Memory first cut = first_cut setting Memory before after input left old new (first (λ is. absurd cc))
 
--- a reply in a world is one for another that answers pure terms alike
+-- a reply in a world is one for another that answers pure terms alike, of the same files
 pub same_setting : {V : Type 0} (step : V → List ℕ → ValueTrees → Option ValueTree → V → Type 0)
-    (program : Program) (one other : List ℕ → ValueTrees → Option ValueTree) (some others : List ℕ → ValueTree → Option ValueTrees)
-    (manner : Manner) (P : Setting V → Type 0) → one ≡ other → some ≡ others → P (setting_in step program one some manner)
-    → P (setting_in step program other others manner)
-same_setting step program one other some others manner P e f h =
-    subst (λ (c : List ℕ → ValueTrees → Option ValueTree). P (setting_in step program c others manner)) e
-    (subst (λ (x : List ℕ → ValueTree → Option ValueTrees). P (setting_in step program one x manner)) f h)
+    (program : Program) (files all : List SourceFile) (one other : List ℕ → ValueTrees → Option ValueTree)
+    (some others : List ℕ → ValueTree → Option ValueTrees) (manner : Manner) (P : Setting V → Type 0) → files ≡ all → one ≡ other → some ≡ others
+    → P (setting_in step program files one some manner) → P (setting_in step program all other others manner)
+same_setting step program files all one other some others manner P same e f h =
+    subst (λ (l : List SourceFile). P (setting_in step program l other others manner)) same
+    (subst (λ (c : List ℕ → ValueTrees → Option ValueTree). P (setting_in step program files c others manner)) e
+    (subst (λ (x : List ℕ → ValueTree → Option ValueTrees). P (setting_in step program files one x manner)) f h))
 
 -- where a line isn't read to its end, nothing is done for it
-pub breaks_unread : {V : Type 0} (setting : Setting V) (world : V) (fault : ServeFault) (part : List ℕ) → IsCutShort fault part
-    → BreaksOff setting fault part world world
-breaks_unread setting world Read part cut = (cut, refl)
-breaks_unread setting world Write part cut = absurd cut
-breaks_unread setting world Memory part cut = (cut, inl refl)
+pub breaks_unread : {V : Type 0} (setting : Setting V) (world : V) (fault : ServeFault) (behind left : Option (List ℕ)) (part : List ℕ)
+    → IsCutShort fault part → BreaksOff setting fault behind left part world world
+breaks_unread setting world Read behind left part cut = (cut, refl)
+breaks_unread setting world Write behind left part cut = absurd cut
+breaks_unread setting world Memory behind left part cut = (cut, inl refl)
 
 -- what breaks off there breaks off in a world that answers pure terms alike
 pub breaks_in : {V : Type 0} (step : V → List ℕ → ValueTrees → Option ValueTree → V → Type 0)
-    (program : Program) (one other : List ℕ → ValueTrees → Option ValueTree) (some others : List ℕ → ValueTree → Option ValueTrees)
-    (manner : Manner) (fault : ServeFault) (part : List ℕ) (reached after : V) → one ≡ other → some ≡ others
-    → BreaksOff (setting_in step program one some manner) fault part reached after
-    → BreaksOff (setting_in step program other others manner) fault part reached after
-breaks_in step program one other some others manner fault part reached after e f h =
-    same_setting step program one other some others manner (λ s. BreaksOff s fault part reached after) e f h
+    (program : Program) (files all : List SourceFile) (one other : List ℕ → ValueTrees → Option ValueTree)
+    (some others : List ℕ → ValueTree → Option ValueTrees) (manner : Manner) (fault : ServeFault) (behind left : Option (List ℕ)) (part : List ℕ)
+    (reached after : V)
+    → files ≡ all → one ≡ other → some ≡ others → BreaksOff (setting_in step program files one some manner) fault behind left part reached after
+    → BreaksOff (setting_in step program all other others manner) fault behind left part reached after
+breaks_in step program files all one other some others manner fault behind left part reached after same e f h =
+    same_setting step program files all one other some others manner (λ s. BreaksOff s fault behind left part reached after) same e f h
 
 -- where nothing is read behind lines, reading has failed there
-pub breaks_at_once : {V : Type 0} (setting : Setting V) (world : V) → BreaksOff setting Read [] world world
-breaks_at_once setting world = ((λ k d less. absurd (omega (arith, less)), λ front ended. never front ended), refl)
+pub breaks_at_once : {V : Type 0} (setting : Setting V) (behind left : Option (List ℕ)) (world : V)
+    → BreaksOff setting Read behind left [] world world
+breaks_at_once setting behind left world = ((λ k d less. absurd (omega (arith, less)), λ front ended. never front ended), refl)
   where
     never : (front : List ℕ) → [] ≡ front ++ codes "\n" → ⊥
     never [] ended = absurd cc
     never (x ∷ front) ended = absurd cc
 
 -- where nothing is read behind lines, nothing is done
-pub breaks_idle : {V : Type 0} (setting : Setting V) (world : V) (fault : ServeFault) → fault ≢ Write → BreaksOff setting fault [] world world
-breaks_idle setting world Read other = breaks_at_once setting world
-breaks_idle setting world Write other = absurd (other refl)
-breaks_idle setting world Memory other = ((λ k d less. absurd (omega (arith, less))), inl refl)
+pub breaks_idle : {V : Type 0} (setting : Setting V) (behind left : Option (List ℕ)) (world : V) (fault : ServeFault) → fault ≢ Write
+    → BreaksOff setting fault behind left [] world world
+breaks_idle setting behind left world Read other = breaks_at_once setting behind left world
+breaks_idle setting behind left world Write other = absurd (other refl)
+breaks_idle setting behind left world Memory other = ((λ k d less. absurd (omega (arith, less))), inl refl)
 
 -- what follows of an error holds of it
 pub err_and : {T E : Type 0} (r : Result T E) (P Q : E → Type 0) → IsErrAnd r P → ((e : E) → P e → Q e) → IfErr r Q
@@ -334,7 +347,8 @@ err_and (Ok x) P Q is f = tt
 err_and (Err e) P Q is f = f e is
 
 -- where memory runs out behind a line, its reply is lost
-pub breaks_reply : {V : Type 0} (setting : Setting V) (before after : V) (fault : ServeFault) (part line : List ℕ) → fault ≡ Memory
-    → StopsAt part 10 → LosesNewline part line → LosesReply setting before line after → BreaksOff setting fault part before after
-breaks_reply setting before after fault part line is stops loses lost =
-    subst (λ f. BreaksOff setting f part before after) (sym is) (stops, inr (line, loses, lost))
+pub breaks_reply : {V : Type 0} (setting : Setting V) (before after : V) (fault : ServeFault) (behind left : Option (List ℕ)) (part line : List ℕ)
+    → fault ≡ Memory → StopsAt part 10 → LosesNewline part line → GivesLines behind left (line ∷ []) → LosesReply setting before line after
+    → BreaksOff setting fault behind left part before after
+breaks_reply setting before after fault behind left part line is stops loses next lost =
+    subst (λ f. BreaksOff setting f behind left part before after) (sym is) (stops, inr (line, loses, next, lost))

@@ -1,5 +1,5 @@
 -- What is told below what is refused or spent, where reasons are asked for.
-use Rattle.std.specs.Prelude.{◌≡◌, ◌++◌, ◌⊎◌, ℕ, Bool, true, false, List, [], ◌∷◌, if◌then◌else◌, codes, decimal}
+use Rattle.std.specs.Prelude.{◌≡◌, ◌≢◌, ◌<◌, ◌++◌, ◌⊎◌, ℕ, Bool, true, false, List, [], ◌∷◌, if◌then◌else◌, codes, decimal, length, get_or}
 use Rattle.isle_syntax.specs.Errors.{Report, error_text, report_text}
 use Rattle.isle_ast.specs.Positions.Files.{SourceFile}
 use Rattle.isle_ast.specs.declared.error.Error.{Error}
@@ -10,9 +10,13 @@ use Rattle.isle_values.specs.declared.worlds.reading.WorldFault.{WorldFault}
 use Rattle.islec.specs.Worlds.{world_fault_line}
 use Rattle.islec.specs.declared.answer.Manner.{Manner}
 
+-- bytes without a newline
+abbrev pub AreOnOneLine : List ℕ → Type 0
+AreOnOneLine bytes = (i : ℕ) → i < length bytes → get_or bytes i 0 ≢ 10
+
 -- a reason: nothing, or where reasons are asked for also words on a line behind two spaces
 abbrev pub IsReason : (asked : Bool) → List ℕ → Type 0
-IsReason asked told = (told ≡ []) ⊎ ((asked ≡ true) × ((words : List ℕ) × (told ≡ codes "  " ++ (words ++ codes "\n"))))
+IsReason asked told = (told ≡ []) ⊎ ((asked ≡ true) × ((words : List ℕ) × AreOnOneLine words × (told ≡ codes "  " ++ (words ++ codes "\n"))))
 
 -- below an answer that is spent, where reasons are asked for, how many calls may be open at once
 abbrev pub depth_line : Manner → Answer → List ℕ

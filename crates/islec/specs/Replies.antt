@@ -17,8 +17,8 @@ use Rattle.isle_program.specs.declared.program.Program.{Program}
 use Rattle.isle_values.specs.declared.queries.QueryFault.{QueryFault}
 use Rattle.isle_values.specs.declared.queries.QueryFault.TheVariants.{Q1, Q2, Q3, Q4, Memory}
 use Rattle.isle_program.specs.Meanings.{checked}
-use Rattle.isle_plain.specs.PlainCalls.{TellsPlainly, BeginsPlainly}
-use Rattle.isle_machine.specs.TreeCalls.{TellsByTree, BeginsByTree}
+use Rattle.isle_calls.specs.PlainCalls.{TellsPlainly, BeginsPlainly}
+use Rattle.isle_calls.specs.TreeCalls.{TellsByTree, BeginsByTree}
 use Rattle.isle_tell.specs.TreeTexts.Names.{indent, pos_text}
 use Rattle.isle_program.specs.Programs.{term_name}
 use Rattle.isle_values.specs.Queries.{RefusesText, IsCallIn}
@@ -101,17 +101,20 @@ abbrev pub steps_line : Bool → ℕ → List ℕ
 steps_line true steps = codes "# steps " ++ (decimal steps ++ codes "\n")
 steps_line false steps = []
 
--- what queries are answered in: a program, what a world answers its pure terms, what an effect makes of a world, and how they are answered
+-- what queries are answered in: a program and its files, what a world answers its pure terms, what an effect makes of a world, and how they are
+-- answered
 pub record Setting (V : Type 0) : Type 1 where
   pub program : Program
+  pub files : List SourceFile
   pub answers : Answers
   pub step : V → List ℕ → ValueTrees → Option ValueTree → V → Type 0
   pub manner : Manner
 
-abbrev pub setting_in : {V : Type 0} → (V → List ℕ → ValueTrees → Option ValueTree → V → Type 0) → Program
+abbrev pub setting_in : {V : Type 0} → (V → List ℕ → ValueTrees → Option ValueTree → V → Type 0) → Program → List SourceFile
     → (List ℕ → ValueTrees → Option ValueTree) → (List ℕ → ValueTree → Option ValueTrees) → Manner → Setting V
-setting_in step program constructs extracts manner = record {
+setting_in step program files constructs extracts manner = record {
   program = program;
+  files = files;
   answers = answers_in program constructs extracts;
   step = step;
   manner = manner;
@@ -144,9 +147,9 @@ abbrev pub BeginsCall : {V : Type 0} → Setting V → V → TermId → ValueTre
 BeginsCall setting before term args after = (made : List Event) × Leads setting before made after
     × BeginsBy setting.manner.plain setting.program setting.answers setting.manner.depth term.0 (values_of (checked setting.program).values args) made
 
--- the lines of some choices, where a trace is asked for: in some files, whose places they tell
+-- the lines of some choices, where a trace is asked for
 abbrev pub AreTraced : {V : Type 0} → Setting V → List ℕ → Type 0
-AreTraced setting told = (files : List SourceFile) × (choices : List Choice) × (told ≡ trace_lines setting.program files setting.manner choices)
+AreTraced setting told = (choices : List Choice) × (told ≡ trace_lines setting.program setting.files setting.manner choices)
 
 -- the lines of a call's effects in order and that of its answer, behind those of the rules that were chosen where a trace is asked for, and with
 -- that of its depth where it is spent and reasons are asked for, and that of its steps where it is asked for; and whether the answer counts as

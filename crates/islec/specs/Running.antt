@@ -60,18 +60,19 @@ CutsCheck files telling old new = ((program : Program) × IsProgramOf files prog
 abbrev pub leaves : List EntryTree → List ℕ → ValueTrees → Option ValueTree → List EntryTree → Type 0
 leaves table name args answer next = (answer ≡ constructed table name args) × (next ≡ table)
 
--- a program in the world of entries, asked in this manner
-abbrev pub in_entries : Program → List EntryTree → Manner → Setting (List EntryTree)
-in_entries program entries manner = setting_in leaves program (constructed entries) (extracted entries) manner
+-- the program of files in the world of entries, asked in this manner
+abbrev pub in_entries : Program → List SourceFile → List EntryTree → Manner → Setting (List EntryTree)
+in_entries program files entries manner = setting_in leaves program files (constructed entries) (extracted entries) manner
 
 -- a table has exactly the entries that a world's file spells
 abbrev pub IsTableOf : Program → (world : SourceFile) → (table : List EntryTree) → Type 0
 IsTableOf program world table = (entries : List EntryTree) × SpellsWorld program world.text entries × HasEntries table entries
 
 -- a program's replies to each line of an input are written, in the world of a file, and behind them what is told behind all
-abbrev pub AnswersIn : Program → (world : SourceFile) → (manner : Manner) → (input : Option (List ℕ)) → Bool → (old new : Option (List ℕ)) → Type 0
-AnswersIn program world manner input refused old new = (table after : List EntryTree) × IsTableOf program world table
-    × AnswersAndTells (in_entries program table manner) table input refused old new after
+abbrev pub AnswersIn : Program → List SourceFile → (world : SourceFile) → (manner : Manner) → (input : Option (List ℕ)) → Bool
+    → (old new : Option (List ℕ)) → Type 0
+AnswersIn program files world manner input refused old new = (table after : List EntryTree) × IsTableOf program world table
+    × AnswersAndTells (in_entries program files table manner) table input refused old new after
 
 -- what tells why a world is refused is written
 pub record TellsWorld (asked : Bool) (program : Program) (world : SourceFile) (old new : Option (List ℕ)) : Type 0 where
@@ -91,24 +92,25 @@ pub record CutsWorld (asked : Bool) (program : Program) (world : SourceFile) (ol
 
 -- a beginning of a program's replies to first lines of an input is written, or of what is told behind all, or one of what tells why a world is
 -- refused
-abbrev pub CutsIn : Program → (world : SourceFile) → (manner : Manner) → (input old new : Option (List ℕ)) → Type 0
-CutsIn program world manner input old new = ((table after : List EntryTree) × IsTableOf program world table
-    × AnswersOrTellsCut (in_entries program table manner) table input old new after) ⊎ CutsWorld manner.explain program world old new
+abbrev pub CutsIn : Program → List SourceFile → (world : SourceFile) → (manner : Manner) → (input old new : Option (List ℕ)) → Type 0
+CutsIn program files world manner input old new = ((table after : List EntryTree) × IsTableOf program world table
+    × AnswersOrTellsCut (in_entries program files table manner) table input old new after) ⊎ CutsWorld manner.explain program world old new
 
 -- nothing is read and nothing is written
 abbrev pub IsUntouched : (input left old new : Option (List ℕ)) → Type 0
 IsUntouched input left old new = (left ≡ input) × Keeps old new
 
 -- replies of a program to first lines of an input are written, or nothing is read and written
-abbrev pub StopsIn : Program → (world : SourceFile) → (manner : Manner) → (input left old new : Option (List ℕ)) → Type 0
-StopsIn program world manner input left old new = IsUntouched input left old new ⊎ ((table after : List EntryTree) × IsTableOf program world table
-    × AnswersUntilMemory (in_entries program table manner) table input left old new after)
+abbrev pub StopsIn : Program → List SourceFile → (world : SourceFile) → (manner : Manner) → (input left old new : Option (List ℕ)) → Type 0
+StopsIn program files world manner input left old new = IsUntouched input left old new
+    ⊎ ((table after : List EntryTree) × IsTableOf program world table
+    × AnswersUntilMemory (in_entries program files table manner) table input left old new after)
 
 -- the replies of the files' program to each line of an input are written, in the world of a file
 abbrev pub WritesAnswers : List SourceFile → (world : SourceFile) → (manner : Manner) → (input : Option (List ℕ))
     → Bool → (old new : Option (List ℕ)) → Type 0
 WritesAnswers files world manner input refused old new =
-    (program : Program) × IsProgramOf files program × AnswersIn program world manner input refused old new
+    (program : Program) × IsProgramOf files program × AnswersIn program files world manner input refused old new
 
 -- what is printed of the files' faults is written, or, of accepted files, what tells why their world is refused
 abbrev pub WritesRefusal : List SourceFile → (world : SourceFile) → (manner : Manner) → (old new : Option (List ℕ)) → Type 0
@@ -118,12 +120,12 @@ WritesRefusal files world manner old new =
 -- a beginning of the replies, of what is printed of faults or of what tells why the world is refused is written
 abbrev pub CutsRun : List SourceFile → (world : SourceFile) → (manner : Manner) → (input old new : Option (List ℕ)) → Type 0
 CutsRun files world manner input old new =
-    ((program : Program) × IsProgramOf files program × CutsIn program world manner input old new) ⊎ CutsFaults manner.explain files old new
+    ((program : Program) × IsProgramOf files program × CutsIn program files world manner input old new) ⊎ CutsFaults manner.explain files old new
 
 -- replies of the files' program to first lines of an input are written, or nothing is read and written
 abbrev pub AnswersSome : List SourceFile → (world : SourceFile) → (manner : Manner) → (input left old new : Option (List ℕ)) → Type 0
 AnswersSome files world manner input left old new =
-    IsUntouched input left old new ⊎ ((program : Program) × IsProgramOf files program × StopsIn program world manner input left old new)
+    IsUntouched input left old new ⊎ ((program : Program) × IsProgramOf files program × StopsIn program files world manner input left old new)
 
 -- the same, and behind it a beginning of the line `out of memory`
 abbrev pub RunsOut : List SourceFile → (world : SourceFile) → (manner : Manner) → (input left old new : Option (List ℕ)) → Type 0

@@ -70,24 +70,30 @@ IsCutShort Read part = StopsAt part 10 × ((front : List ℕ) → part ≡ front
 IsCutShort Write part = ⊥
 IsCutShort Memory part = StopsAt part 10
 
--- how the answering of lines breaks off, behind a part of one more: where reading fails, nothing was done for that; where memory runs out, its
--- reply may be lost
-abbrev pub BreaksOff : {V : Type 0} → Setting V → ServeFault → (part : List ℕ) → V → V → Type 0
-BreaksOff setting Read part reached after = IsCutShort Read part × (after ≡ reached)
-BreaksOff setting Write part reached after = ⊥
-BreaksOff setting Memory part reached after =
-    IsCutShort Memory part × ((after ≡ reached) ⊎ ((line : List ℕ) × LosesNewline part line × LosesReply setting reached line after))
+-- how the answering of lines breaks off, behind a part of one more, which was read: where reading fails, nothing was done for that; where memory
+-- runs out, nothing was done for it either, or it is the next line, and its reply may be lost
+abbrev pub BreaksOff : {V : Type 0} → Setting V → ServeFault → (behind left : Option (List ℕ)) → (part : List ℕ) → V → V → Type 0
+BreaksOff setting Read behind left part reached after = IsCutShort Read part × (after ≡ reached)
+BreaksOff setting Write behind left part reached after = ⊥
+BreaksOff setting Memory behind left part reached after = IsCutShort Memory part × ((after ≡ reached)
+    ⊎ ((line : List ℕ) × LosesNewline part line × GivesLines behind left (line ∷ []) × LosesReply setting reached line after))
 
 -- replies to first lines of an input are written, and there it breaks off
 abbrev pub AnswersFirst : {V : Type 0} → Setting V → ServeFault → V → (input left old new : Option (List ℕ)) → V → Type 0
 AnswersFirst {V} setting fault before input left old new after = (lines : List (List ℕ)) × (part : List ℕ) × (refused : Bool) × (reached : V)
-    × ReadsLines input left lines part × WritesReplies setting before lines refused old new reached × BreaksOff setting fault part reached after
+    × (reads : ReadsLines input left lines part) × WritesReplies setting before lines refused old new reached
+    × BreaksOff setting fault reads.behind left part reached after
 
--- a beginning of the replies to first lines of an input is written, and at most the reply to one more was lost
+-- behind the replies to first lines of an input nothing was done, or the reply to the next line may be lost
+abbrev pub LosesNext : {V : Type 0} → Setting V → (input : Option (List ℕ)) → List (List ℕ) → V → V → Type 0
+LosesNext setting input lines reached after = (after ≡ reached)
+    ⊎ ((line : List ℕ) × AreFirstLinesOf input (lines ++ line ∷ []) × LosesReply setting reached line after)
+
+-- a beginning of the replies to first lines of an input is written, and at most the reply to the next line was lost
 abbrev pub AnswersCut : {V : Type 0} → Setting V → V → (input old new : Option (List ℕ)) → V → Type 0
 AnswersCut {V} setting before input old new after = (lines : List (List ℕ)) × (refused : Bool) × (out : List ℕ) × (reached : V)
     × AreFirstLinesOf input lines × AreReplies setting before lines out refused reached × AppendsBeginning old new out
-    × ((line : List ℕ) × LosesReply setting reached line after)
+    × LosesNext setting input lines reached after
 
 -- what is told behind all replies: nothing where neither rules that no call chose nor unanswered calls are asked for
 abbrev pub IsSummary : Manner → List ℕ → Type 0
@@ -129,7 +135,8 @@ pub record KeepsBack {V : Type 0} (setting : Setting V) (before : V) (lines : Li
 -- replies to first lines of an input, of which an end is kept back and the others are written, and there it breaks off
 abbrev pub KeepsFirst : {V : Type 0} → Setting V → ServeFault → V → (input left old new : Option (List ℕ)) → List ℕ → V → Type 0
 KeepsFirst {V} setting fault before input left old new kept after = (lines : List (List ℕ)) × (part : List ℕ) × (refused : Bool) × (reached : V)
-    × ReadsLines input left lines part × KeepsBack setting before lines refused old new kept reached × BreaksOff setting fault part reached after
+    × (reads : ReadsLines input left lines part) × KeepsBack setting before lines refused old new kept reached
+    × BreaksOff setting fault reads.behind left part reached after
 
 -- of what was kept back a beginning is written, and the rest is still kept back
 abbrev pub WritesFirst : (kept rest : List ℕ) → (old new : Option (List ℕ)) → Type 0

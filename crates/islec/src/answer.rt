@@ -9,7 +9,7 @@ ghost use Rattle.isle_calls.specs.Calls.Answers.{answers_in, HasMade};
 ghost use Rattle.isle_program.specs.Facts.Reach.{IsRunnable};
 ghost use Rattle.isle_program.specs.Meanings.{checked};
 ghost use Rattle.isle_program.specs.Programs.{types_of, terms_of, types_taken, value_facts};
-ghost use Rattle.isle_machine.specs.TreeCalls.{IsCompiled};
+ghost use Rattle.isle_calls.specs.TreeCalls.{IsCompiled};
 ghost use Rattle.isle_values.specs.Values.Text.{value_text};
 ghost use Rattle.islec.specs.Reasons.{IsReason, depth_line};
 ghost use Rattle.islec.specs.Replies.{BeginsBy, TellsBy, steps_line, setting_in, Refuses, IsReply, AnswersCall, BeginsCall, LosesReply, effect_line, answer_line, answer_text, call_text, given_text, cause_number, counts_as_refused};
@@ -61,11 +61,13 @@ pub fn reply_to<V: World>(
 ) -> Result<Reply, AllocError>
     requires { IsCompiled program.now }
     ensures not_text { ¬ (IsUtf8 line.now) → IfOk result (Refuses manner.explain 4) }
-    ensures reply { IfOk result (λ reply. IsReply (setting_in V.step program.now (V.constructs world.old) (V.extracts world.old) manner)
+    ensures reply { IfOk result (λ reply. IsReply
+        (setting_in V.step program.now watch.old.files.now (V.constructs world.old) (V.extracts world.old) manner)
         world.old line.now (string_bytes reply.lines) reply.refused world.new) }
-    ensures lost { OnErr result (LosesReply (setting_in V.step program.now (V.constructs world.old) (V.extracts world.old) manner)
+    ensures lost { OnErr result (LosesReply (setting_in V.step program.now watch.old.files.now (V.constructs world.old) (V.extracts world.old) manner)
         world.old line.now world.new) }
     ensures same { (V.constructs world.new ≡ V.constructs world.old) × (V.extracts world.new ≡ V.extracts world.old) }
+    ensures files { watch.new.files.now ≡ watch.old.files.now }
 {
     let Ok(text) = str::from_utf8(line) else {
         return refused(alloc, 4, no_text_line(alloc, manner.explain)?.as_str());
@@ -135,11 +137,12 @@ fn reply_to_call<V: World>(
     requires callable { IsRunnable (types_of program.now) (terms_of program.now) term.0 }
     requires typed { AreOfTypes (value_facts program.now) (value_list args.items) (types_taken program.now term) }
     ensures answers { IfOk result (λ reply. AnswersCall
-        (setting_in V.step program.now (V.constructs world.old) (V.extracts world.old) manner) world.old term (value_list args.items)
-        (string_bytes reply.lines) reply.refused world.new) }
-    ensures lost { OnErr result (BeginsCall (setting_in V.step program.now (V.constructs world.old) (V.extracts world.old) manner)
+        (setting_in V.step program.now watch.old.files.now (V.constructs world.old) (V.extracts world.old) manner)
+        world.old term (value_list args.items) (string_bytes reply.lines) reply.refused world.new) }
+    ensures lost { OnErr result (BeginsCall (setting_in V.step program.now watch.old.files.now (V.constructs world.old) (V.extracts world.old) manner)
         world.old term (value_list args.items) world.new) }
     ensures same { (V.constructs world.new ≡ V.constructs world.old) × (V.extracts world.new ≡ V.extracts world.old) }
+    ensures files { watch.new.files.now ≡ watch.old.files.now }
 {
     let mut effects = Vec::new(alloc);
     let told = answer_by(alloc, program, world, manner, term, args, &mut effects)?;

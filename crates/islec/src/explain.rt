@@ -4,7 +4,7 @@ ghost use Rattle.isle_ast.specs.Errors.{IsPrintable};
 ghost use Rattle.isle_syntax.specs.Errors.{error_text};
 ghost use Rattle.isle_program.specs.Facts.Reach.{IsRunnable};
 ghost use Rattle.isle_program.specs.Programs.{types_of, terms_of};
-ghost use Rattle.islec.specs.Reasons.{ExplainEach, ExplainsFault, IsReason, ReportsFaults};
+ghost use Rattle.islec.specs.Reasons.{AreOnOneLine, ExplainEach, ExplainsFault, IsReason, ReportsFaults};
 ghost use Rattle.islec.specs.Terms.{TellsReason};
 
 use isle_run::reasons::{fault_reasons, query_reason, term_reason, world_reason};
@@ -14,10 +14,21 @@ use isle_syntax::files::Files;
 use std::alloc::{AllocError, Global};
 use std::rc::Rc;
 
+/// The first line of words.
+fn first_line(words: &str) -> &str
+    ensures { AreOnOneLine result.now }
+{
+    match words.split_once('\n') {
+        Some((line, _others)) => line,
+        None => words,
+    }
+}
+
 /// Words on a line behind two spaces.
 fn line_of(alloc: Global, words: &str) -> Result<String, AllocError>
     ensures { IfOk result (λ line. IsReason true (string_bytes line)) }
 {
+    let words = first_line(words);
     format!(in alloc; "  {words}\n")
 }
 

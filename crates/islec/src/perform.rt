@@ -4,7 +4,7 @@ ghost use Rattle.std.specs.Io.KnownBytes.{Appends, Keeps};
 ghost use Rattle.isle_syntax.specs.Errors.{report_text};
 ghost use Rattle.isle_ast.specs.Positions.Files.{source_file};
 ghost use Rattle.isle_program.specs.Compiled.{AreAccepted};
-ghost use Rattle.isle_machine.specs.TreeCalls.{IsCompiled};
+ghost use Rattle.isle_calls.specs.TreeCalls.{IsCompiled};
 ghost use Rattle.islec.specs.Endings.{EndsJob};
 ghost use Rattle.islec.specs.Replies.{setting_in};
 ghost use Rattle.islec.specs.Running.{TellsChecked, WritesFaults, WritesAccepted, WritesAnswers, WritesRefusal, CutsCheck, CutsRun, AnswersSome, AnswersIn, TellsWorld, CutsIn, StopsIn, in_entries};
@@ -140,16 +140,16 @@ fn run_program<R: BufRead, W: Write>(
     writer: &mut W,
 ) -> Result<Status, ServeFault>
     requires { IsCompiled program.now }
-    ensures all_well { IfOk result (λ status. status ≡ Status.AllWell → AnswersIn program.now
+    ensures all_well { IfOk result (λ status. status ≡ Status.AllWell → AnswersIn program.now files.now
         (world_file world) manner (R.remaining reader.old) false (W.contents writer.old) (W.contents writer.new)) }
-    ensures some_refused { IfOk result (λ status. status ≡ Status.SomeRefused → AnswersIn program.now
+    ensures some_refused { IfOk result (λ status. status ≡ Status.SomeRefused → AnswersIn program.now files.now
         (world_file world) manner (R.remaining reader.old) true (W.contents writer.old) (W.contents writer.new)) }
     ensures refused { IfOk result (λ status. status ≡ Status.TextsRefused → TellsWorld manner.explain
         program.now (world_file world) (W.contents writer.old) (W.contents writer.new)) }
     ensures other { IfOk result IsEnd }
-    ensures cut { IfErr result (λ fault. fault ≢ ServeFault.Memory → CutsIn program.now
+    ensures cut { IfErr result (λ fault. fault ≢ ServeFault.Memory → CutsIn program.now files.now
         (world_file world) manner (R.remaining reader.old) (W.contents writer.old) (W.contents writer.new)) }
-    ensures memory { IfErr result (λ fault. fault ≡ ServeFault.Memory → StopsIn program.now
+    ensures memory { IfErr result (λ fault. fault ≡ ServeFault.Memory → StopsIn program.now files.now
         (world_file world) manner (R.remaining reader.old) (R.remaining reader.new) (W.contents writer.old) (W.contents writer.new)) }
 {
     let (name, text) = world_parts(alloc, world)?;
@@ -183,17 +183,17 @@ fn answer_all<R: BufRead, W: Write>(
 ) -> Result<Status, ServeFault>
     requires { IsCompiled program.now }
     ensures all_well { IfOk result (λ status. status ≡ Status.AllWell → AnswersAndTells
-        (in_entries program.now world.old manner) world.old (R.remaining reader.old) false
+        (in_entries program.now files.now world.old manner) world.old (R.remaining reader.old) false
         (W.contents writer.old) (W.contents writer.new) world.new) }
     ensures some_refused { IfOk result (λ status. status ≡ Status.SomeRefused → AnswersAndTells
-        (in_entries program.now world.old manner) world.old (R.remaining reader.old) true
+        (in_entries program.now files.now world.old manner) world.old (R.remaining reader.old) true
         (W.contents writer.old) (W.contents writer.new) world.new) }
     ensures other { IfOk result (λ status. (status ≡ Status.AllWell) ⊎ (status ≡ Status.SomeRefused)) }
     ensures cut { IfErr result (λ fault. fault ≢ ServeFault.Memory → AnswersOrTellsCut
-        (in_entries program.now world.old manner) world.old (R.remaining reader.old)
+        (in_entries program.now files.now world.old manner) world.old (R.remaining reader.old)
         (W.contents writer.old) (W.contents writer.new) world.new) }
     ensures memory { IfErr result (λ fault. fault ≡ ServeFault.Memory → AnswersUntilMemory
-        (in_entries program.now world.old manner) world.old (R.remaining reader.old) (R.remaining reader.new)
+        (in_entries program.now files.now world.old manner) world.old (R.remaining reader.old) (R.remaining reader.new)
         (W.contents writer.old) (W.contents writer.new) world.new) }
 {
     let mut watch = Watch::new(alloc, files);
@@ -272,17 +272,17 @@ fn answer<V: World, R: BufRead, W: Write>(
 ) -> Result<Status, ServeFault>
     requires { IsCompiled program.now }
     ensures all_well { IfOk result (λ status. status ≡ Status.AllWell → AnswersAll
-        (setting_in V.step program.now (V.constructs world.old) (V.extracts world.old) manner)
+        (setting_in V.step program.now watch.old.files.now (V.constructs world.old) (V.extracts world.old) manner)
         world.old (R.remaining reader.old) false (W.contents writer.old) (W.contents writer.new) world.new) }
     ensures some_refused { IfOk result (λ status. status ≡ Status.SomeRefused → AnswersAll
-        (setting_in V.step program.now (V.constructs world.old) (V.extracts world.old) manner)
+        (setting_in V.step program.now watch.old.files.now (V.constructs world.old) (V.extracts world.old) manner)
         world.old (R.remaining reader.old) true (W.contents writer.old) (W.contents writer.new) world.new) }
     ensures other { IfOk result (λ status. (status ≡ Status.AllWell) ⊎ (status ≡ Status.SomeRefused)) }
     ensures cut { IfErr result (λ fault. fault ≢ ServeFault.Memory → AnswersCut
-        (setting_in V.step program.now (V.constructs world.old) (V.extracts world.old) manner)
+        (setting_in V.step program.now watch.old.files.now (V.constructs world.old) (V.extracts world.old) manner)
         world.old (R.remaining reader.old) (W.contents writer.old) (W.contents writer.new) world.new) }
     ensures memory { IfErr result (λ fault. fault ≡ ServeFault.Memory → AnswersFirst
-        (setting_in V.step program.now (V.constructs world.old) (V.extracts world.old) manner) fault
+        (setting_in V.step program.now watch.old.files.now (V.constructs world.old) (V.extracts world.old) manner) fault
         world.old (R.remaining reader.old) (R.remaining reader.new) (W.contents writer.old) (W.contents writer.new) world.new) }
 {
     match serve(alloc, program, world, manner, watch, reader, writer) {

@@ -2,7 +2,7 @@
 ghost use Rattle.std.specs.Prelude.{◌≡◌, ◌≢◌, ◌↔◌, ◌++◌, ◌||◌, ℕ, Bool, List, [], ◌∷◌, OnOk, OnErr, IfOk, IfErr, IfSome, IfNone, IsTrue, codes, string_bytes};
 ghost use Rattle.std.specs.Io.KnownBytes.{Appends, Consumes, Keeps, IsAtEnd};
 ghost use Rattle.std.specs.Io.{StopsAt};
-ghost use Rattle.isle_machine.specs.TreeCalls.{IsCompiled};
+ghost use Rattle.isle_calls.specs.TreeCalls.{IsCompiled};
 ghost use Rattle.islec.specs.Replies.{IsReply, setting_in};
 ghost use Rattle.islec.specs.Serving.{AreLinesOf, AnswersAll, AnswersFirst, AnswersCut, KeepsBack, KeepsFirst, WritesFirst, GivesLines, TakesLine, LosesNewline, IsCutShort, BreaksOff, some_refused};
 ghost use Rattle.islec.specs.Writing.{AppendsBeginning, ContinuesBy};
@@ -78,13 +78,13 @@ pub fn serve<V: World, R: BufRead, W: Write>(
     requires { IsCompiled program.now }
     ensures continues { ContinuesBy (W.contents writer.old) (W.contents writer.new) }
     ensures answered { IfOk result (λ served. AnswersAll
-        (setting_in V.step program.now (V.constructs world.old) (V.extracts world.old) manner) world.old (R.remaining reader.old)
+        (setting_in V.step program.now watch.old.files.now (V.constructs world.old) (V.extracts world.old) manner) world.old (R.remaining reader.old)
         (some_refused served) (W.contents writer.old) (W.contents writer.new) world.new) }
     ensures stopped { IfErr result (λ fault. fault ≢ ServeFault.Write → AnswersFirst
-        (setting_in V.step program.now (V.constructs world.old) (V.extracts world.old) manner) fault
+        (setting_in V.step program.now watch.old.files.now (V.constructs world.old) (V.extracts world.old) manner) fault
         world.old (R.remaining reader.old) (R.remaining reader.new) (W.contents writer.old) (W.contents writer.new) world.new) }
     ensures cut { IfErr result (λ fault. fault ≡ ServeFault.Write → AnswersCut
-        (setting_in V.step program.now (V.constructs world.old) (V.extracts world.old) manner)
+        (setting_in V.step program.now watch.old.files.now (V.constructs world.old) (V.extracts world.old) manner)
         world.old (R.remaining reader.old) (W.contents writer.old) (W.contents writer.new) world.new) }
 {
     let mut unwritten = String::new(alloc);
@@ -132,14 +132,14 @@ fn serve_lines<V: World, B: BufRead, W: Write>(
     ensures answered { IfOk result (λ served. (lines : List (List ℕ))
         × AreLinesOf (B.remaining input.old) lines
         × KeepsBack
-        (setting_in V.step program.now (V.constructs world.old) (V.extracts world.old) manner) world.old lines (some_refused served)
-        (W.contents writer.old) (W.contents writer.new) (string_bytes unwritten.new) world.new) }
+        (setting_in V.step program.now watch.old.files.now (V.constructs world.old) (V.extracts world.old) manner)
+        world.old lines (some_refused served) (W.contents writer.old) (W.contents writer.new) (string_bytes unwritten.new) world.new) }
     ensures stopped { IfErr result (λ fault. fault ≢ ServeFault.Write → KeepsFirst
-        (setting_in V.step program.now (V.constructs world.old) (V.extracts world.old) manner) fault
+        (setting_in V.step program.now watch.old.files.now (V.constructs world.old) (V.extracts world.old) manner) fault
         world.old (B.remaining input.old) (B.remaining input.new) (W.contents writer.old) (W.contents writer.new) (string_bytes unwritten.new)
         world.new) }
     ensures cut { IfErr result (λ fault. fault ≡ ServeFault.Write → AnswersCut
-        (setting_in V.step program.now (V.constructs world.old) (V.extracts world.old) manner)
+        (setting_in V.step program.now watch.old.files.now (V.constructs world.old) (V.extracts world.old) manner)
         world.old (B.remaining input.old) (W.contents writer.old) (W.contents writer.new) world.new) }
 {
     let mut served = Served::AllWell;
@@ -171,6 +171,7 @@ fn await_lines<B: BufRead, W: Write>(
     ensures end { IfOk result (λ ready. IfNone ready (IsAtEnd (B.remaining input.old))) }
     ensures written { OnOk result (WritesFirst (string_bytes unwritten.old) (string_bytes unwritten.new)
         (W.contents writer.old) (W.contents writer.new)) }
+    ensures shown { OnOk result (ready ≡ 0 → string_bytes unwritten.new ≡ []) }
     ensures unread { IfErr result (λ fault. fault ≢ ServeFault.Write → WritesFirst (string_bytes unwritten.old) (string_bytes unwritten.new)
         (W.contents writer.old) (W.contents writer.new)) }
     ensures cut { IfErr result (λ fault. fault ≡ ServeFault.Write → AppendsBeginning (W.contents writer.old) (W.contents writer.new)
@@ -212,17 +213,20 @@ fn answer_next<V: World, B: BufRead>(
     requires { IsCompiled program.now }
     ensures answered { IfOk result (λ next. IfSome next (λ refused. (line one : List ℕ)
         × IsReply
-        (setting_in V.step program.now (V.constructs world.old) (V.extracts world.old) manner) world.old line one refused world.new
+        (setting_in V.step program.now watch.old.files.now (V.constructs world.old) (V.extracts world.old) manner)
+        world.old line one refused world.new
         × (string_bytes unwritten.new ≡ string_bytes unwritten.old ++ one)
         × GivesLines (B.remaining input.old) (B.remaining input.new) (line ∷ [])
         × ((took : List ℕ) × Consumes (B.remaining input.old) (B.remaining input.new) took))) }
     ensures same { (V.constructs world.new ≡ V.constructs world.old) × (V.extracts world.new ≡ V.extracts world.old) }
+    ensures files { watch.new.files.now ≡ watch.old.files.now }
     ensures end { IfOk result (λ next. IfNone next (IsAtEnd (B.remaining input.old))) }
     ensures none { IfOk result (λ next. IfNone next
         ((string_bytes unwritten.new ≡ string_bytes unwritten.old) × (world.new ≡ world.old))) }
     ensures err { OnErr result (string_bytes unwritten.new ≡ string_bytes unwritten.old) }
     ensures lost { IfErr result (λ fault. (part : List ℕ) × Consumes (B.remaining input.old) (B.remaining input.new) part × BreaksOff
-        (setting_in V.step program.now (V.constructs world.old) (V.extracts world.old) manner) fault part world.old world.new) }
+        (setting_in V.step program.now watch.old.files.now (V.constructs world.old) (V.extracts world.old) manner) fault (B.remaining input.old)
+        (B.remaining input.new) part world.old world.new) }
 {
     let Some(line) = read_line(alloc, input)? else {
         return Ok(None);

@@ -31,7 +31,9 @@ impl<'a> Watch<'a> {
     }
 
     /// Keeps the rules of choices, where coverage is asked for.
-    pub fn keep(&mut self, manner: Manner, choices: &[Choice]) -> Result<(), AllocError> {
+    pub fn keep(&mut self, manner: Manner, choices: &[Choice]) -> Result<(), AllocError>
+        ensures { self.new.files.now ≡ self.old.files.now }
+    {
         if !manner.coverage {
             return Ok(());
         }

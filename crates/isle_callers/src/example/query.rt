@@ -4,7 +4,7 @@ ghost use Rattle.isle_meaning.specs.ValueTypes.{AreOfTypes};
 ghost use Rattle.isle_rules.specs.Values.{value_list};
 ghost use Rattle.isle_program.specs.Facts.Reach.{IsRunnable};
 ghost use Rattle.isle_program.specs.Programs.{types_of, terms_of, types_taken, value_facts};
-ghost use Rattle.isle_machine.specs.TreeCalls.{IsCompiled};
+ghost use Rattle.isle_calls.specs.TreeCalls.{IsCompiled};
 ghost use Rattle.isle_callers.specs.Calls.{IsAnswerOf, IsAnswered, IsBegun, IsLost, hosted};
 
 use isle_run::{Answer, Effect, Program, QueryFault, TermId, Value, World, call};

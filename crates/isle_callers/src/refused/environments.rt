@@ -1,4 +1,8 @@
 //! Calls of environments.
+ghost use Rattle.std.specs.Prelude.{All, IfOk};
+ghost use Rattle.isle_ast.specs.Trees.MacroArgs.{HasNoMacroArgs};
+ghost use Rattle.isle_types.specs.TypeEnvs.{IsEnvironmentOf};
+
 use crate::refused::tried::Tried;
 use isle_syntax::Text;
 use isle_syntax::ast::{Def, Ident};
@@ -10,8 +14,13 @@ use isle_types::TypeEnv;
 use std::alloc::{AllocError, Global};
 
 /// The definitions of a text that spells some.
-pub fn parsed(alloc: Global, text: &str) -> Result<Vec<Def>, AllocError> {
-    parse(Lexer::new(alloc, 0, text)).map_err(|_| AllocError)
+pub fn parsed(alloc: Global, text: &str) -> Result<Vec<Def>, AllocError>
+    ensures { IfOk result (λ defs. All HasNoMacroArgs defs.items) }
+{
+    match parse(Lexer::new(alloc, 0, text)) {
+        Ok(defs) => Ok(defs),
+        Err(_) => Err(AllocError),
+    }
 }
 
 /// A name with a number.
@@ -32,14 +41,20 @@ fn told_names(alloc: Global, types: &TypeEnv) -> Result<String, AllocError> {
     Ok(state)
 }
 
+/// Gives an environment the name of a number.
+fn intern_name(alloc: Global, types: &mut TypeEnv, number: u64) -> Result<(), AllocError> {
+    let name = numbered(alloc, number)?;
+    let _sym = types.intern_mut(&name)?;
+    Ok(())
+}
+
 /// An environment with so many names gets the next one.
 pub fn intern(alloc: Global, size: u64) -> Result<Tried, AllocError> {
     let mut types = TypeEnv::new(alloc)?;
     for number in 0..size {
-        types.intern_mut(&numbered(alloc, number)?)?;
+        intern_name(alloc, &mut types, number)?;
     }
-    let next = numbered(alloc, size)?;
-    let interned = types.intern_mut(&next);
+    let interned = intern_name(alloc, &mut types, size);
     Ok(Tried {
         is_answered: interned.is_ok(),
         state: told_names(alloc, &types)?,
@@ -58,12 +73,17 @@ fn told_errors(alloc: Global, types: &TypeEnv) -> Result<String, AllocError> {
     Ok(state)
 }
 
+/// Tells an environment the error of a number.
+fn report_numbered(alloc: Global, types: &mut TypeEnv, number: u64) -> Result<(), AllocError> {
+    let message = format!(in alloc; "error{number}")?;
+    types.report_error(Pos::new(0, 0), message.as_str())
+}
+
 /// An environment with so many errors is told the next one.
 pub fn report(alloc: Global, size: u64) -> Result<Tried, AllocError> {
     let mut types = TypeEnv::new(alloc)?;
     for number in 0..size {
-        let message = format!(in alloc; "error{number}")?;
-        types.report_error(Pos::new(0, 0), message.as_str())?;
+        report_numbered(alloc, &mut types, number)?;
     }
     let reported = types.report_error(Pos::new(0, 0), "last");
     Ok(Tried {
@@ -73,24 +93,8 @@ pub fn report(alloc: Global, size: u64) -> Result<Tried, AllocError> {
 }
 
 // `g` is declared behind `f`, and the rules' variables are names too.
-pub const TERMS: &str =
-    "(type T (enum A (B (x u8)))) (decl f (u8) T) (decl g (T) u8) (rule (f 1) (T.A))
+const TERMS: &str = "(type T (enum A (B (x u8)))) (decl f (u8) T) (decl g (T) u8) (rule (f 1) (T.A))
     (rule (f x) (T.B x)) (rule (g (T.B y)) y)";
-
-/// The types of these terms, and the terms; none where memory is refused for them.
-pub fn terms(alloc: Global) -> Result<(TypeEnv, Option<TermEnv>), AllocError> {
-    let Ok(parsed) = parse(Lexer::new(alloc, 0, TERMS)) else {
-        return Err(AllocError);
-    };
-    let defs = parsed.as_slice();
-    let Ok(mut types) = TypeEnv::from_ast(alloc, defs) else {
-        return Err(AllocError);
-    };
-    let Ok(terms) = TermEnv::from_ast(alloc, &mut types, defs, true) else {
-        return Ok((types, None));
-    };
-    Ok((types, Some(terms)))
-}
 
 /// How many names of an environment stand at the same place in another one.
 fn kept_names(before: &TypeEnv, types: &TypeEnv) -> usize {
@@ -98,15 +102,65 @@ fn kept_names(before: &TypeEnv, types: &TypeEnv) -> usize {
     pairs.filter(|(one, other)| one == other).count()
 }
 
+/// How an environment stands behind another one that is read of the same types.
+fn told_kept(alloc: Global, before: &TypeEnv, after: &TypeEnv) -> Result<String, AllocError> {
+    let is_kept = kept_names(before, after) == before.syms().len();
+    let (types, errors) = (after.types().len(), after.errors().len());
+    format!(in alloc; "{types} types, {errors} errors, names kept: {is_kept}")
+}
+
+/// The types of definitions, or want of memory.
+fn types_of(alloc: Global, defs: &[Def]) -> Result<TypeEnv, AllocError>
+    ensures { IfOk result (IsEnvironmentOf defs.now) }
+{
+    match TypeEnv::from_ast(alloc, defs) {
+        Ok(types) => Ok(types),
+        Err(_) => Err(AllocError),
+    }
+}
+
+/// Reads terms over the types of definitions, and tells how these stand behind that.
+fn read_over(alloc: Global, defs: &[Def], before: &TypeEnv) -> Result<Tried, AllocError>
+    requires { All HasNoMacroArgs defs.now }
+{
+    let mut types = types_of(alloc, defs)?;
+    let is_answered = TermEnv::from_ast(alloc, &mut types, defs, true).is_ok();
+    Ok(Tried {
+        is_answered,
+        state: told_kept(alloc, before, &types)?,
+    })
+}
+
 /// Reads terms over an environment of types, which may get more names by that, and nothing else.
 pub fn read_terms(alloc: Global) -> Result<Tried, AllocError> {
     let defs = parsed(alloc, TERMS)?;
-    let before = TypeEnv::from_ast(alloc, defs.as_slice()).map_err(|_| AllocError)?;
-    let (types, terms) = terms(alloc)?;
-    let is_kept = kept_names(&before, &types) == before.syms().len();
-    let (types, errors) = (types.types().len(), types.errors().len());
+    let before = types_of(alloc, defs.as_slice())?;
+    read_over(alloc, defs.as_slice(), &before)
+}
+
+/// Copies terms and rules, and tells of how many terms and rules there are.
+fn copied(alloc: Global, terms: &TermEnv) -> Result<Tried, AllocError> {
+    let copy: Result<TermEnv, AllocError> = terms.clone();
+    let (count, rules) = (terms.terms().len(), terms.rules().len());
     Ok(Tried {
-        is_answered: terms.is_some(),
-        state: format!(in alloc; "{types} types, {errors} errors, names kept: {is_kept}")?,
+        is_answered: copy.is_ok(),
+        state: format!(in alloc; "{count} terms, {rules} rules")?,
     })
+}
+
+/// Copies the terms and rules of definitions.
+fn copy_terms_of(alloc: Global, defs: &[Def]) -> Result<Tried, AllocError>
+    requires { All HasNoMacroArgs defs.now }
+{
+    let mut types = types_of(alloc, defs)?;
+    match TermEnv::from_ast(alloc, &mut types, defs, true) {
+        Ok(terms) => copied(alloc, &terms),
+        Err(_) => Err(AllocError),
+    }
+}
+
+/// Copies terms and rules.
+pub fn copy_terms(alloc: Global) -> Result<Tried, AllocError> {
+    let defs = parsed(alloc, TERMS)?;
+    copy_terms_of(alloc, defs.as_slice())
 }

@@ -10,12 +10,12 @@ use Rattle.isle_meaning.proofs.Calls.Meant.{plain_run_meant}
 use Rattle.isle_meaning.proofs.Machine.Agreeing.{answer_meant, meant_deeper}
 use Rattle.isle_meaning.proofs.Machine.Meant.{machine_run_meant}
 use Rattle.isle_meaning.proofs.Machine.Spending.{never_spent}
-use Rattle.isle_machine.specs.TreeCalls.{term_trees}
+use Rattle.isle_calls.specs.TreeCalls.{term_trees}
 use Rattle.isle_program.specs.Facts.Asked.{term_number}
 use Rattle.isle_run.specs.Laws.TreeCalls.{AcyclicCallsAreNotSpent, CallsAgree}
 use Rattle.isle_program.specs.Meanings.{checked, may_run}
 use Rattle.isle_program.specs.Programs.{types_of, terms_of}
-use Rattle.isle_machine.proofs.Blocks.Grown.{compiled_grown}
+use Rattle.isle_calls.proofs.TreeRoad.Grown.{compiled_grown}
 use Rattle.isle_run.proofs.Chains.Acyclic.{reaches_in}
 use Rattle.isle_run.proofs.Chains.Compiled.{compiled_meanings_are_one}
 use Rattle.isle_program.proofs.SoundPrograms.Known.{sound_of}

@@ -6,7 +6,7 @@ use Rattle.isle_blocks.specs.RuleSets.{RulesOverSites}
 use Rattle.isle_blocks.specs.Trees.BuiltTrees.{OfEachBuilt}
 use Rattle.isle_blocks.specs.Trees.Shown.{BlockShown}
 use Rattle.isle_program.specs.Programs.{terms_of, rule_sets_of, set_trees_of}
-use Rattle.isle_machine.proofs.Blocks.Grown.{defined, found_is}
+use Rattle.isle_calls.proofs.TreeRoad.Grown.{defined, found_is}
 use Rattle.isle_run.specs.Laws.Trees.{OfEachTerm}
 
 pub of_each_term : (P : RulesOverSites → BlockShown → Type 0) → OfEachBuilt P → OfEachTerm P

@@ -17,11 +17,11 @@ use Rattle.isle_meaning.proofs.Machine.Meant.{machine_run_meant}
 use Rattle.isle_meaning.proofs.Machine.One.{machine_runs_are_one}
 use Rattle.isle_meaning.proofs.Machine.Short.{machine_run_short}
 use Rattle.isle_meaning.proofs.Machine.Staying.{machine_runs_stay}
-use Rattle.isle_machine.specs.TreeCalls.{term_trees}
+use Rattle.isle_calls.specs.TreeCalls.{term_trees}
 use Rattle.isle_run.specs.Laws.Runs.{RunsByTreesSaySo, RunsByRulesSaySo, RunsByTreesAreOne, DeeperRunsByTreesAreOne, RunsByRulesAreOne}
 use Rattle.isle_run.specs.Laws.Runs.{DeeperRunsByRulesAreOne}
 use Rattle.isle_program.specs.Meanings.{checked, may_run}
-use Rattle.isle_machine.proofs.Blocks.Grown.{compiled_grown}
+use Rattle.isle_calls.proofs.TreeRoad.Grown.{compiled_grown}
 use Rattle.isle_program.proofs.SoundPrograms.Known.{sound_of}
 
 pub runs_by_trees_say_so : RunsByTreesSaySo

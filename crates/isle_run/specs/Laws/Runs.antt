@@ -10,12 +10,12 @@ use Rattle.isle_meaning.specs.PlainRuns.{PlainRun}
 use Rattle.isle_meaning.specs.Values.{Value, Values}
 use Rattle.isle_meaning.specs.Worlds.{Answers, Event}
 use Rattle.isle_program.specs.declared.program.Program.{Program}
-use Rattle.isle_machine.specs.TreeCalls.{term_trees}
+use Rattle.isle_calls.specs.TreeCalls.{term_trees}
 use Rattle.isle_program.specs.Facts.Steps.{steps_in}
 use Rattle.isle_run.specs.Laws.Sound.{RunsIn}
 use Rattle.isle_program.specs.Meanings.{checked}
 use Rattle.isle_program.specs.Programs.{rule_sets_of}
-use Rattle.isle_machine.specs.TreeCalls.{IsCompiled}
+use Rattle.isle_calls.specs.TreeCalls.{IsCompiled}
 
 -- What a run by trees says of its call: an answer is what the call means, any other end is that of a chain of asking; it reaches no more steps
 -- than the term's rules take at most, and makes no effects where the term is pure.

@@ -10,14 +10,14 @@ use Rattle.isle_meaning.specs.PlainRuns.{PlainRun}
 use Rattle.isle_meaning.specs.Values.{Value, Values}
 use Rattle.isle_meaning.specs.Worlds.{Answers, Event}
 use Rattle.isle_program.specs.declared.program.Program.{Program}
-use Rattle.isle_machine.specs.TreeCalls.{term_trees}
+use Rattle.isle_calls.specs.TreeCalls.{term_trees}
 use Rattle.isle_program.specs.Facts.Asked.{AreRoots}
 use Rattle.isle_program.specs.Facts.Inhabited.{AreAllInhabited}
 use Rattle.isle_program.specs.Facts.Reach.{Reaches}
 use Rattle.isle_run.specs.Laws.Sound.{RunsIn}
 use Rattle.isle_program.specs.Meanings.{checked}
 use Rattle.isle_program.specs.Programs.{types_of, terms_of}
-use Rattle.isle_machine.specs.TreeCalls.{IsCompiled}
+use Rattle.isle_calls.specs.TreeCalls.{IsCompiled}
 
 -- Where no term of a compiled program reaches itself, no run by its trees of a term that can be run is spent at a depth of at least the number
 -- of terms with rules.

@@ -39,7 +39,7 @@ returns-in-Err-clause-reply g c =
 pub returns-in-Ok-query-clause-lost : goal.returns-in-Ok-query-clause-lost
 returns-in-Ok-query-clause-lost g c =
     let (same, utf8) = c.in-Ok.ensures.cases in
-    lost_query (setting_in g.V.World.step c.args.program.now (g.V.World.constructs c.args.world.now)
+    lost_query (setting_in g.V.World.step c.args.program.now c.args.watch.now.files.now (g.V.World.constructs c.args.world.now)
     (g.V.World.extracts c.args.world.now) c.args.manner)
     c.args.world.now c.reply_to_call.new.world c.args.line.now c.in-Ok.text.now c.in-Ok-query.term (value_list c.in-Ok-query.args.items)
     c.reply_to_call.result same c.in-Ok-query.ensures.spelt c.reply_to_call.ensures.lost

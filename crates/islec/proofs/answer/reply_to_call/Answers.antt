@@ -8,7 +8,7 @@ use Rattle.isle_calls.specs.Calls.Answers.{IsEventOf}
 use Rattle.isle_program.specs.Programs.{value_facts}
 use Rattle.isle_calls.proofs.OpenCalls.Telling.{inputs_taken}
 use Rattle.islec.specs.Reasons.{depth_line}
-use Rattle.islec.specs.Replies.{effect_line, answer_line, steps_line}
+use Rattle.islec.specs.Replies.{effect_line, answer_line, steps_line, trace_lines}
 use Rattle.islec.proofs.answer.reply_to_call.Goals as goal
 
 pub answer_by-requires : goal.answer_by-requires
@@ -28,7 +28,10 @@ returns-clause-answers g c = record {
       let joined = has.joined ∙ ap (λ l. l ++ has.more) c.new-effects.ensures.items in
       (made, subst (λ l. AllZip (IsEventOf c.args.program.now) l made) (sym joined) has.shown, has.steps, tells);
   told = string_bytes c.in_ok-lines.lines;
-  traced = (_, _, c.in_ok-lines.ensures);
+  traced = (
+    c.as_slice-choices.result.now,
+    c.in_ok-lines.ensures ∙ ap (λ files. trace_lines c.args.program.now files c.args.manner c.as_slice-choices.result.now) c.keep.ensures,
+  );
   written = c.in_ok-push_reply.ensures
       ∙ ap (λ l. string_bytes c.in_ok-lines.lines ++ (flat_map effect_line l ++ (answer_line c.args.program.now c.in_ok-told.told.0.answer
       ++ (depth_line c.args.manner c.in_ok-told.told.0.answer ++ steps_line c.args.manner.steps c.in_ok-told.told.0.steps))))

@@ -27,14 +27,14 @@ returns g c =
     let input = g.R.Read.remaining c.args.reader.now in let old = g.W.Write.contents c.args.writer.now in
     let new = g.W.Write.contents c.refuse_world.new.writer in
     let r = c.refuse_world.result in record {
-      all_well = never_answers program world file c.args.manner same fault refuses input input old new false
+      all_well = never_answers program c.args.files.now world file c.args.manner same fault refuses input input old new false
           AllWell r c.refuse_world.ensures.status all_well_is_other;
-      some_refused = never_answers program world file c.args.manner same fault refuses input input old new
+      some_refused = never_answers program c.args.files.now world file c.args.manner same fault refuses input input old new
           true SomeRefused r c.refuse_world.ensures.status some_refused_is_other;
-      refused = tells program world file c.args.manner same fault refuses input input old new r c.refuse_world.ensures.written;
-      other = ends program world file c.args.manner same fault refuses input input old new r c.refuse_world.ensures.status;
-      cut = cuts program world file c.args.manner same fault refuses input input old new r c.refuse_world.ensures.cut;
-      memory = stops program world file c.args.manner same fault refuses input input old new r refl c.refuse_world.ensures.memory;
+      refused = tells program c.args.files.now world file c.args.manner same fault refuses input input old new r c.refuse_world.ensures.written;
+      other = ends program c.args.files.now world file c.args.manner same fault refuses input input old new r c.refuse_world.ensures.status;
+      cut = cuts program c.args.files.now world file c.args.manner same fault refuses input input old new r c.refuse_world.ensures.cut;
+      memory = stops program c.args.files.now world file c.args.manner same fault refuses input input old new r refl c.refuse_world.ensures.memory;
     }
 
 pub returns-in-Ok-clause-all_well : goal.returns-in-Ok-clause-all_well
@@ -46,7 +46,7 @@ returns-in-Ok-clause-all_well g c =
           (subst (λ (t : List ℕ). SpellsWorld c.args.program.now t entries) c.as_str.ensures.value spelt),
       has,
     ) in
-    answers_in_world c.args.program.now (world_file c.args.world) c.args.manner c.in-Ok.table c.answer_all.new.world spells
+    answers_in_world c.args.program.now c.args.files.now (world_file c.args.world) c.args.manner c.in-Ok.table c.answer_all.new.world spells
     (g.R.Read.remaining c.args.reader.now) (g.R.Read.remaining c.answer_all.new.reader)
     (g.W.Write.contents c.args.writer.now) (g.W.Write.contents c.answer_all.new.writer) false AllWell c.answer_all.result
     (rw c.new-world.ensures at c.answer_all.ensures.all_well)
@@ -60,7 +60,7 @@ returns-in-Ok-clause-some_refused g c =
           (subst (λ (t : List ℕ). SpellsWorld c.args.program.now t entries) c.as_str.ensures.value spelt),
       has,
     ) in
-    answers_in_world c.args.program.now (world_file c.args.world) c.args.manner c.in-Ok.table c.answer_all.new.world spells
+    answers_in_world c.args.program.now c.args.files.now (world_file c.args.world) c.args.manner c.in-Ok.table c.answer_all.new.world spells
     (g.R.Read.remaining c.args.reader.now) (g.R.Read.remaining c.answer_all.new.reader)
     (g.W.Write.contents c.args.writer.now) (g.W.Write.contents c.answer_all.new.writer) true SomeRefused c.answer_all.result
     (rw c.new-world.ensures at c.answer_all.ensures.some_refused)
@@ -74,7 +74,7 @@ returns-in-Ok-clause-cut g c =
           (subst (λ (t : List ℕ). SpellsWorld c.args.program.now t entries) c.as_str.ensures.value spelt),
       has,
     ) in
-    cuts_in_world c.args.program.now (world_file c.args.world) c.args.manner c.in-Ok.table c.answer_all.new.world spells
+    cuts_in_world c.args.program.now c.args.files.now (world_file c.args.world) c.args.manner c.in-Ok.table c.answer_all.new.world spells
     (g.R.Read.remaining c.args.reader.now) (g.R.Read.remaining c.answer_all.new.reader)
     (g.W.Write.contents c.args.writer.now) (g.W.Write.contents c.answer_all.new.writer) c.answer_all.result
     (rw c.new-world.ensures at c.answer_all.ensures.cut)
@@ -88,7 +88,7 @@ returns-in-Ok-clause-memory g c =
           (subst (λ (t : List ℕ). SpellsWorld c.args.program.now t entries) c.as_str.ensures.value spelt),
       has,
     ) in
-    stops_in_world c.args.program.now (world_file c.args.world) c.args.manner c.in-Ok.table c.answer_all.new.world spells
+    stops_in_world c.args.program.now c.args.files.now (world_file c.args.world) c.args.manner c.in-Ok.table c.answer_all.new.world spells
     (g.R.Read.remaining c.args.reader.now) (g.R.Read.remaining c.answer_all.new.reader)
     (g.W.Write.contents c.args.writer.now) (g.W.Write.contents c.answer_all.new.writer) c.answer_all.result
     (rw c.new-world.ensures at c.answer_all.ensures.memory)

@@ -24,8 +24,9 @@ returns-in_err-line-clause-lost g c = err_and c.from_residual.result _ _ c.from_
     let (part, took, cut) = c.in_err-line.ensures.lost in (
       part,
       took,
-      breaks_unread (setting_in g.V.World.step c.args.program.now (g.V.World.constructs c.args.world.now)
-          (g.V.World.extracts c.args.world.now) c.args.manner) c.args.world.now fault part (subst (λ f. IsCutShort f part) (sym same) cut),
+      breaks_unread (setting_in g.V.World.step c.args.program.now c.args.watch.now.files.now (g.V.World.constructs c.args.world.now)
+          (g.V.World.extracts c.args.world.now) c.args.manner) c.args.world.now fault (g.B.Read.remaining c.args.input.now)
+          (g.B.Read.remaining c.read_line.new.input) part (subst (λ f. IsCutShort f part) (sym same) cut),
     ))
 
 pub returns-in_err-reply-clause-lost : goal.returns-in_err-reply-clause-lost
@@ -35,10 +36,12 @@ returns-in_err-reply-clause-lost g c = err_and c.from_residual-in_err-reply.resu
     let (took, stops) = rw c.in-Some.is at c.in_ok-line.ensures.took in (
       c.in-Some.line.items,
       took,
-      breaks_reply (setting_in g.V.World.step c.args.program.now (g.V.World.constructs c.args.world.now)
+      breaks_reply (setting_in g.V.World.step c.args.program.now c.args.watch.now.files.now (g.V.World.constructs c.args.world.now)
           (g.V.World.extracts c.args.world.now) c.args.manner)
-          c.args.world.now c.reply_to.new.world fault c.in-Some.line.items bare same stops loses
-          c.in_err-reply.ensures.lost,
+          c.args.world.now c.reply_to.new.world fault (g.B.Read.remaining c.args.input.now) (g.B.Read.remaining c.read_line.new.input)
+          c.in-Some.line.items bare same stops loses
+          (taken (g.B.Read.remaining c.args.input.now) (g.B.Read.remaining c.read_line.new.input) c.in-Some.line.items bare
+          (rw c.in-Some.is at c.in_ok-line.ensures.line) loses) c.in_err-reply.ensures.lost,
     ))
 
 pub returns-in_err-push_str-clause-lost : goal.returns-in_err-push_str-clause-lost
@@ -48,9 +51,12 @@ returns-in_err-push_str-clause-lost g c = err_and c.from_residual-in_err-push_st
     let (took, stops) = rw c.in-Some.is at c.in_ok-line.ensures.took in (
       c.in-Some.line.items,
       took,
-      breaks_reply (setting_in g.V.World.step c.args.program.now (g.V.World.constructs c.args.world.now)
+      breaks_reply (setting_in g.V.World.step c.args.program.now c.args.watch.now.files.now (g.V.World.constructs c.args.world.now)
           (g.V.World.extracts c.args.world.now) c.args.manner)
-          c.args.world.now c.reply_to.new.world fault c.in-Some.line.items bare same stops loses
-          (reply_lost (setting_in g.V.World.step c.args.program.now (g.V.World.constructs c.args.world.now)
+          c.args.world.now c.reply_to.new.world fault (g.B.Read.remaining c.args.input.now) (g.B.Read.remaining c.read_line.new.input)
+          c.in-Some.line.items bare same stops loses
+          (taken (g.B.Read.remaining c.args.input.now) (g.B.Read.remaining c.read_line.new.input) c.in-Some.line.items bare
+          (rw c.in-Some.is at c.in_ok-line.ensures.line) loses)
+          (reply_lost (setting_in g.V.World.step c.args.program.now c.args.watch.now.files.now (g.V.World.constructs c.args.world.now)
           (g.V.World.extracts c.args.world.now) c.args.manner) c.args.world.now bare _ _ c.reply_to.new.world c.in_ok-reply.ensures.reply),
     ))

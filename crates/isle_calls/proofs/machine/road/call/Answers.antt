@@ -1,0 +1,58 @@
+use Rattle.isle_meaning.proofs.Machine.Beginnings.{machine_stops}
+use Rattle.isle_calls.proofs.OpenCalls.Made.{made_none, on_err}
+use Rattle.std.proofs.Common.{List, refl, subst, []}
+use Rattle.std.proofs.lemmas.Result.{IfOk-weaker, on_err_weaker}
+use Rattle.isle_rules.specs.Values.{ValueTree, value_list}
+use Rattle.isle_meaning.specs.GroundValues.{values_of}
+use Rattle.isle_calls.specs.Inside.Blocks.Frames.{IsGrown}
+use Rattle.isle_calls.specs.TreeCalls.{term_trees}
+use Rattle.isle_calls.specs.Calls.Answers.{answers_in}
+use Rattle.isle_calls.specs.Calls.Ways.{IsReady}
+use Rattle.isle_program.specs.Meanings.{checked}
+use Rattle.isle_calls.specs.Stores.Values.{StandEach}
+use Rattle.isle_calls.proofs.TreeRoad.Grown.{compiled_grown}
+use Rattle.isle_calls.proofs.TreeRoad.Telling.{tree_tells, tree_stops}
+use Rattle.isle_calls.proofs.machine.road.call.Goals as goal
+
+pub returns-clause-ran : goal.returns-clause-ran
+returns-clause-ran g c = IfOk-weaker c.answer_call.result _ _ (λ called told compiled may typed.
+    let program = c.args.program.now in
+    let trees = value_list c.args.args.items in
+    let vs = values_of (checked program).values trees in
+    let stand = subst (λ (l : List ValueTree). StandEach c.share_all.new.self (values_of (checked program).values (value_list l))
+    c.in_ok-shared.shared.items)
+    c.as_slice.ensures.value c.in_ok-shared.ensures.numbers in
+    let ready : IsReady IsGrown program c.args.term.0 vs =
+    record { holds = compiled_grown program compiled; may = may; typed = record { trees = trees; typed = typed; stand = refl } } in
+    let (made, has, r, tells, run) = told vs stand ready in (
+      made,
+      has,
+      tree_tells program (answers_in program (g.W.World.constructs c.args.world.now) (g.W.World.extracts c.args.world.now))
+          c.args.depth c.args.term.0 vs
+          called made r ready tells run,
+    )) c.answer_call.ensures.ran
+
+pub returns-in_err-shared-clause-lost : goal.returns-in_err-shared-clause-lost
+returns-in_err-shared-clause-lost g c = on_err c.from_residual.result (λ compiled may typed. (
+  [],
+  made_none _ _ _ _,
+  record { begins = machine_stops (checked c.args.program.now) _ (term_trees c.args.program.now) c.args.depth c.args.term.0 _; pure = λ pure. refl },
+))
+
+pub returns-clause-lost : goal.returns-clause-lost
+returns-clause-lost g c = on_err_weaker c.answer_call.result (λ lost compiled may typed.
+    let program = c.args.program.now in
+    let trees = value_list c.args.args.items in
+    let vs = values_of (checked program).values trees in
+    let stand = subst (λ (l : List ValueTree). StandEach c.share_all.new.self (values_of (checked program).values (value_list l))
+    c.in_ok-shared.shared.items)
+    c.as_slice.ensures.value c.in_ok-shared.ensures.numbers in
+    let ready : IsReady IsGrown program c.args.term.0 vs =
+    record { holds = compiled_grown program compiled; may = may; typed = record { trees = trees; typed = typed; stand = refl } } in
+    let (made, has, begun) = lost vs stand ready in (
+      made,
+      has,
+      tree_stops program (answers_in program (g.W.World.constructs c.args.world.now) (g.W.World.extracts c.args.world.now))
+          c.args.depth c.args.term.0 vs
+          made ready begun,
+    )) c.answer_call.ensures.lost

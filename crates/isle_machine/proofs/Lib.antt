@@ -1,2 +1,0 @@
--- The road over trees.
-pub mod Blocks

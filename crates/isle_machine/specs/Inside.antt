@@ -1,2 +1,0 @@
--- The road over trees: a call walks the tree of its term.
-pub mod Blocks

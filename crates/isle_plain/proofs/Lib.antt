@@ -1,2 +1,0 @@
--- The plain road.
-pub mod Plain

@@ -1,2 +1,0 @@
--- The plain road: rules tried one by one.
-pub mod Plain
