@@ -25,7 +25,7 @@ Lines that aren't blank.
 """
 MINUTES = """## Minutes
 
-Of one run of `rt ci` from nothing, with one job a check. A crate's wall clock is from the begin of its first check to the end of
+Of `rt ci` from nothing, with one job a check. A crate's wall clock is from the begin of its first check to the end of
 its last one. What stands beside each other is in both, so they don't add up to the whole.
 
 """
