@@ -1,14 +1,17 @@
 #!/usr/bin/env python3
-"""Writes docs/GATE.md: lines, what each crate's proofs take, and the bounds of `make bench`.
+"""Writes docs/GATE.md: lines, the words of the main clauses, what each crate's proofs take, and the bounds of `make bench`.
 
 usage: tools/figures.py
 
-Lines are counted. Minutes are those of `out/gate.json`, which the last `rt ci` by `tools/gate.py` left, and bounds those of `out/bench.txt`, which
-the last `make bench` left. Where such a file is missing, the table that stands in docs/GATE.md is kept.
+Lines are counted, and the definitions that a clause names by itself or through others. Minutes are those of `out/gate.json`, which the last `rt ci`
+by `tools/gate.py` left, and bounds those of `out/bench.txt`, which the last `make bench` left. Where such a file is missing, the table that stands in
+docs/GATE.md is kept.
 """
 import json
 import os
 import re
+
+import inside
 
 PAGE = "docs/GATE.md"
 HEAD = """# The gate
@@ -23,6 +26,16 @@ LINES = """## Lines
 Lines that aren't blank.
 
 """
+WORDS = """## Words
+
+What a reader of a clause meets: the definitions that it names, by itself or through others, and the files that they stand in.
+
+"""
+# The main clauses, and the files that their words come from at most.
+CLAUSES = (
+    ("isle_program", "src/compiler.rt", "compile", "accepted", 35),
+    ("isle_calls", "src/machine/road.rt", "call", "ran", 90),
+)
 MINUTES = """## Minutes
 
 Of `rt ci` from nothing, with one job a check. A crate's wall clock is from the begin of its first check to the end of
@@ -67,6 +80,23 @@ def lines():
     return "\n".join([*rows, f"| all | {' | '.join(f'{it:,}' for it in whole)} |"])
 
 
+def words_of(definitions, crate, path, function, clause):
+    """The definitions that a clause names, by itself or through others."""
+    text = re.sub(r"(?m)//[^\n]*", "", read(f"crates/{crate}/{path}"))
+    clauses = next(clauses for name, _, clauses in inside.clauses(text) if name == function)
+    own = re.search(rf"(?ms)^\s*ensures {clause}\b.*?(?=^\s*(?:ensures|requires)\b|\Z)", "\n" + clauses)
+    return definitions.closure(definitions.words(own[0], inside.imports(text), {}))
+
+
+def words():
+    """The table of the main clauses' words."""
+    rows, definitions = ["| Clause | Files | At most | Definitions |", "|---|---|---|---|"], inside.Definitions()
+    for crate, path, function, clause, most in CLAUSES:
+        found = words_of(definitions, crate, path, function, clause)
+        rows.append(f"| `{crate}::{function}` (`{clause}`) | {len({it[:2] for it in found})} | {most} | {len(found)} |")
+    return "\n".join(rows)
+
+
 def minutes():
     """The table of minutes of the last run, if there is one."""
     if not os.path.isfile("out/gate.json"):
@@ -96,7 +126,7 @@ def kept(head):
 
 def main():
     os.chdir(os.path.dirname(os.path.dirname(os.path.abspath(__file__))))
-    parts = [(LINES, lines()), (MINUTES, minutes()), (BOUNDS, bounds())]
+    parts = [(LINES, lines()), (WORDS, words()), (MINUTES, minutes()), (BOUNDS, bounds())]
     page = "\n".join([HEAD, *(head + (table or kept(head)) + "\n" for head, table in parts)])
     with open(PAGE, "w", encoding="utf-8") as it:
         it.write(page)

@@ -8,3 +8,5 @@ pub mod ReadsBack
 pub mod SpeltTexts
 -- a loop over trees asks one after another whether it fits, or whether it passes a test
 pub mod Nestings
+-- a text laid out with its comments has the same pieces
+pub mod Keeping

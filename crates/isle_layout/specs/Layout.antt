@@ -76,3 +76,9 @@ abbrev mutual
 -- a length, where it is at most the width
 abbrev pub within : (width length : ℕ) → Option ℕ
 within width length = if nat_le length width then Some length else None
+
+-- the sum of two lengths, where both are known and it is at most the width
+abbrev pub sum_within : (width : ℕ) → Option ℕ → Option ℕ → Option ℕ
+sum_within width None n = None
+sum_within width (Some m) None = None
+sum_within width (Some m) (Some n) = within width (m + n)

@@ -20,5 +20,7 @@ pub mod Writable
 pub mod ReadsBack
 -- What it is to format a text.
 pub mod Formats
+-- A text laid out with its comments.
+pub mod Keeping
 -- What no public contract cites.
 pub mod Inside

@@ -6,7 +6,7 @@ ghost use Rattle.std.specs.Slice.Iter.{iter_rest};
 ghost use Rattle.isle_layout.specs.SExprShape.{sexpr_of, sexprs_of};
 ghost use Rattle.isle_layout.specs.SExprTree.{sexpr_list};
 ghost use Rattle.isle_layout.specs.Inside.SExprInnermost.{innermost, names_text};
-ghost use Rattle.isle_layout.specs.Layout.{one_line, one_line_length, stays_on_one_line, layout, layouts, broken, line, fits_of, fits_of_all, within};
+ghost use Rattle.isle_layout.specs.Layout.{one_line, one_line_length, stays_on_one_line, layout, layouts, broken, line, fits_of, fits_of_all, within, sum_within};
 ghost use Rattle.isle_layout.specs.DefSpellings.{OnFault, def_has_macro_arg};
 ghost use Rattle.isle_layout.specs.Prints.{print_of};
 ghost use Rattle.isle_layout.specs.ReadsBack.{IsReadAs};
@@ -105,15 +105,16 @@ impl SExpr {
 }
 
 /// A length, or `None` where it is above the width.
-fn at_most(width: usize, length: usize) -> Option<usize>
+pub(crate) fn at_most(width: usize, length: usize) -> Option<usize>
     ensures { result ≡ within width length }
 {
     if length <= width { Some(length) } else { None }
 }
 
 /// The sum of two lengths, or `None` where it is above the width.
-fn sum_within(width: usize, first: Option<usize>, second: Option<usize>) -> Option<usize>
-    ensures { (m n : ℕ) → first ≡ within width m → second ≡ within width n → result ≡ within width (m + n) }
+pub(crate) fn sum_within(width: usize, first: Option<usize>, second: Option<usize>) -> Option<usize>
+    ensures exact { result ≡ sum_within width first second }
+    ensures sum { (m n : ℕ) → first ≡ within width m → second ≡ within width n → result ≡ within width (m + n) }
 {
     match (first, second) {
         (Some(first), Some(second)) => match first.checked_add(second) {
@@ -125,7 +126,7 @@ fn sum_within(width: usize, first: Option<usize>, second: Option<usize>) -> Opti
 }
 
 /// How many characters a text has, or `None` where they are more than the width.
-fn text_length(width: usize, text: &str) -> Option<usize>
+pub(crate) fn text_length(width: usize, text: &str) -> Option<usize>
     ensures { result ≡ within width (char_count text.now) }
 {
     at_most(width, text.chars().count())

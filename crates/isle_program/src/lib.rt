@@ -3,6 +3,7 @@
 
 pub mod compiler;
 pub mod facts;
+pub mod faulty;
 pub mod laid;
 pub mod program;
 

@@ -53,6 +53,9 @@ impl Program {
     ghost use Rattle.isle_meaning.specs.Facts.{never_fails};
     ghost use Rattle.isle_rules.specs.Shown.ShownTerms.{form_shown};
 
+    /// Lets a program go, here, so that a crate above has to prove none of what that does to its parts.
+    pub fn release(self) {}
+
     /// The program of typed definitions, of the rule sets of their rules, and of the trees of these.
     pub(crate) fn new(
         alloc: Global,

@@ -9,3 +9,5 @@ pub mod SpeltPositions
 pub mod VerdictPositions
 -- The rules of a text stand one behind the other, since its tokens do.
 pub mod RuleOrder
+-- How the lines of a message are printed, one after another.
+pub mod MessageLines

@@ -1,5 +1,5 @@
 -- What reports of errors print.
-use Rattle.std.specs.Prelude.{ℕ, List, [], ◌∷◌, ◌++◌, slice_get, codes}
+use Rattle.std.specs.Prelude.{ℕ, List, [], ◌∷◌, ◌++◌, cond, eqb, slice_get, codes}
 use Rattle.std.specs.List.{flat_map}
 use Rattle.std.specs.Option.{option_map_or}
 use Rattle.isle_ast.specs.Positions.Files.{SourceFile, named_place}
@@ -24,9 +24,17 @@ heading files span kind = place_text files span ++ (codes ": " ++ (kind ++ 10 �
 abbrev pub indented : List ℕ → List ℕ
 indented text = codes "  " ++ (text ++ 10 ∷ [])
 
--- a heading, and the message below it
+-- a byte as it is, and two spaces behind a newline
+abbrev pub indented_byte : ℕ → List ℕ
+indented_byte byte = byte ∷ cond (eqb byte 10) (codes "  ") []
+
+-- each line of a text on a line of its own, after two spaces
+abbrev pub indented_lines : List ℕ → List ℕ
+indented_lines text = indented (flat_map indented_byte text)
+
+-- a heading, and the lines of the message below it
 abbrev pub fault_text : List SourceFile → Span → List ℕ → List ℕ → List ℕ
-fault_text files span kind message = heading files span kind ++ indented message
+fault_text files span kind message = heading files span kind ++ indented_lines message
 
 -- a heading, and further rules below it
 abbrev pub rules_text : List SourceFile → Span → List ℕ → List Span → List ℕ

@@ -3,6 +3,8 @@
 pub mod PlacedTokens
 -- The classes of symbols.
 pub mod Names
+-- The end of a text.
+pub mod Ends
 -- What stands at the front of a text: white space, a comment, or a token of some kind.
 pub mod Gaps
 -- Integers as they are spelt.

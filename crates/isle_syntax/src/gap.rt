@@ -1,7 +1,7 @@
 //! Gaps between tokens, which are white space and comments, and what a text begins with.
 ghost use Rattle.std.specs.Prelude.{◌≡◌, ◌≤◌, ◌-◌, ◌<◌, ◌==◌, [], ◌∷◌, length, drop, slice_index, not, MatchOption, option_map};
 ghost use Rattle.std.specs.Str.{IsUtf8};
-ghost use Rattle.isle_syntax.specs.Inside.Tokens.Ends.{IsEnd};
+ghost use Rattle.isle_syntax.specs.Tokens.Ends.{IsEnd};
 ghost use Rattle.isle_syntax.specs.Tokens.Names.{is_space, is_digit};
 ghost use Rattle.isle_syntax.specs.Tokens.Gaps.{begins_semicolon, lead_of_parenthesis, lead_of_token, lead_of, after_first, after_run, in_line};
 ghost use Rattle.isle_syntax.specs.Tokens.Gaps.{mark_of};
@@ -105,7 +105,7 @@ pub fn lead_of(bytes: &[u8]) -> Lead
 
 /// From the newline on that ends the line, or from the end on.
 #[tactic(auto, unfolding(crate::specs::Tokens::Gaps::after_run))]
-fn after_line(bytes: &[u8]) -> &[u8]
+pub fn after_line(bytes: &[u8]) -> &[u8]
     ensures { result.now ≡ after_run in_line bytes.now }
 {
     let mut rest = bytes;
@@ -140,7 +140,7 @@ fn mark_of(first: u8, second: u8) -> Mark
 
 /// What follows the comment whose inside begins here, or `None` where it isn't closed. Comments nest.
 #[tactic(auto, unfolding(crate::specs::Tokens::Finding::after_comment))]
-fn after_comment(bytes: &[u8]) -> Option<&[u8]>
+pub fn after_comment(bytes: &[u8]) -> Option<&[u8]>
     ensures { option_map (λ r. r.now) result ≡ after_comment 0 bytes.now }
 {
     let mut rest = bytes;

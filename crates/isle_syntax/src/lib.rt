@@ -2,13 +2,13 @@
 #![tactic(auto)]
 
 pub mod error;
-mod gap;
+pub mod gap;
 mod kind;
 pub mod laws;
 pub mod lexer;
-mod number;
+pub mod number;
 pub mod parser;
-mod symbol;
+pub mod symbol;
 pub mod without_pos;
 
 pub use isle_ast::{Boxed, Refusal, Seq, Shared, Text, ast, files};

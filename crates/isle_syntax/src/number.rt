@@ -183,6 +183,14 @@ fn digits_of(bytes: &[u8], radix: u32) -> (&[u8], &[u8])
     bytes.split_at(bytes.len() - rest.len())
 }
 
+/// What follows the sign, the radix and the digits at the front of a text, whether or not they spell an integer.
+pub fn after_integer(text: &[u8]) -> &[u8]
+    ensures { result.now ≡ after_integer text.now }
+{
+    let unsigned = unsigned_of(text);
+    after_digits(behind_prefix(unsigned), radix_of(unsigned))
+}
+
 /// The integer at the front of a text and what follows it, or `None` where no integer is spelt.
 pub fn number(text: &str) -> Option<(Token, &str)>
     ensures { MatchOption result (integer_of text.now ≡ None) (λ r. (integer_of text.now ≡ Some r.0) × (r.1.now ≡ after_integer text.now)) }

@@ -19,7 +19,7 @@ fn ends_symbol(b: u8) -> bool
 
 /// From the byte on that ends the symbol, or from the end on.
 #[tactic(auto, unfolding(crate::specs::Tokens::Gaps::after_run))]
-fn after_symbol(bytes: &[u8]) -> &[u8]
+pub fn after_symbol(bytes: &[u8]) -> &[u8]
     ensures { result.now ≡ after_run continues_symbol bytes.now }
 {
     let mut rest = bytes;

@@ -1,5 +1,6 @@
 //! Tests of `isle_layout`: parts of definitions that are printed by themselves, and definitions that can't be printed.
 use crate::syntax::trees::chain;
+use isle_layout::keep::keep;
 use isle_layout::printer::print_node;
 use isle_layout::to_sexpr::ToSExpr;
 use isle_layout::writable::writable;
@@ -48,6 +49,45 @@ pub fn part(alloc: Global, name: &str) -> Result<String, Fail> {
         "item" => shown(alloc, &KeptItem::At { pos }),
         "wildcard" => shown_clause(alloc, Pattern::Wildcard { pos }),
         _ => shown_clause(alloc, Pattern::MacroArg { index: 0, pos }),
+    }
+}
+
+/// Texts with the width before them.
+pub const KEPT: &str = "
+| 80: \n\n ; a  \n(; b ;)\n\n\n(decl a () T) → ; a\n(; b ;)\n\n(decl a () T)
+| 80: (; b ;) (decl a () T) → (; b ;)\n(decl a () T)
+| 80: (attr a)(attr b)\n\n\n\n; c\n(attr d)\n(attr e) → (attr a)\n(attr b)\n\n; c\n(attr d)\n(attr e)
+| 80: (attr a)   ; b\n(attr c)(; d ;)(; e ;) ; f\n\n; g → (attr a) ; b\n(attr c) (; d ;) (; e ;) ; f\n\n; g
+| 80: ( ; a\nattr b) → ( ; a\n    attr\n    b\n)
+| 80: (\n\n ; a\n attr b) → (\n    ; a\n    attr\n    b\n)
+| 80: ((; a ;)attr b) → ((; a ;) attr b)
+| 80: (rule (f x ; why\n (; y ;) y)\n\n\n ; z\n z) → (rule\n    (f\n        x ; why\n        (; y ;)\n        y\n    )\n\n    ; z\n    z\n)
+| 80: (attr\n (; a ;)\n\n b) → (attr (; a ;) b)
+| 8: (attr\n (; a ;)\n\n b) → (attr\n    (; a ;)\n\n    b\n)
+| 80: (attr a ; b\n) → (attr\n    a ; b\n)
+| 80: (attr x@(g 0x1F)) → (attr x @ (g 0x1F))
+| 80: (rule (f x ; a\n @ ; b\n y) z) → (rule\n    (f\n        x ; a\n        @ ; b\n        y\n    )\n    z\n)
+| 4: (attr x @ y @ z) → (attr\n    x @ y @ z\n)
+| 80: (attr a) ; b\r\n\r\n\r\n(attr\r\n d)\r\n → (attr a) ; b\n\n(attr d)
+| 12: (attr a b) ; a comment that is longer → (attr a b) ; a comment that is longer
+| 80: (attr (; a\n   b ;) c) → (attr (; a\n   b ;)\n    c\n)
+| 80: (attr -0b1_0 0X_fF 12abc \"é\") → (attr -0b1_0 0X_fF 12 abc \"é\")
+| 80: (attr a → refused
+| 80: (attr a) (; b → refused";
+
+/// What a text is laid out as with its comments, at the width before it; `refused` where it has a fault.
+pub fn kept(alloc: Global, row: &str) -> Result<String, Fail> {
+    let (width, text) = row.split_once(": ").ok_or("a width")?;
+    let width = match width {
+        "4" => 4,
+        "8" => 8,
+        "12" => 12,
+        _ => 80,
+    };
+    match keep(alloc, 0, text, width) {
+        Ok(text) => Ok(text),
+        Err(Refusal::Fault(_)) => Ok(String::from_str(alloc, "refused")?),
+        Err(Refusal::Memory(e)) => Err(Fail::from(e)),
     }
 }
 

@@ -1,5 +1,5 @@
 //! Tables of texts, with what is wanted of each.
-use crate::layout::{PARTS, part};
+use crate::layout::{KEPT, PARTS, kept, part};
 use crate::syntax::lexer::{CLASSES, classes};
 use crate::syntax::trees::{OFFSETS, offsets};
 use crate::terms::{FUNCTIONS, IDENTIFIERS, functions, identifiers};
@@ -15,6 +15,8 @@ enum Asked {
     Offsets,
     /// What is printed of a part of that name.
     Parts,
+    /// What it is laid out as with its comments.
+    Kept,
     /// The functions of the host that stand for its term.
     Functions,
     /// What its rules are called.
@@ -26,6 +28,7 @@ fn answer(alloc: Global, asked: Asked, text: &str) -> Result<String, Fail> {
         Asked::Classes => classes(alloc, text),
         Asked::Offsets => offsets(alloc, text),
         Asked::Parts => part(alloc, text),
+        Asked::Kept => kept(alloc, text),
         Asked::Functions => functions(alloc, text),
         Asked::Identifiers => identifiers(alloc, text),
     }
@@ -50,6 +53,7 @@ fn texts_are_answered(rt: HostRuntime) -> Result<(), Fail> {
         (Asked::Classes, CLASSES),
         (Asked::Offsets, OFFSETS),
         (Asked::Parts, PARTS),
+        (Asked::Kept, KEPT),
         (Asked::Functions, FUNCTIONS),
         (Asked::Identifiers, IDENTIFIERS),
     ] {

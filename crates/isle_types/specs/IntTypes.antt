@@ -1,5 +1,6 @@
 -- The integer types, and which numbers they have.
-use Rattle.std.specs.Prelude.{ℕ, ℤ, pos, negsuc, ◌-◌, ◌^◌, ◌+ℤ◌, ◌≤ℤ◌, Bool, true, false, List, [], ◌∷◌, map, if◌then◌else◌, codes}
+use Rattle.std.specs.Prelude.{ℕ, ℤ, pos, negsuc, ◌-◌, ◌^◌, ◌+ℤ◌, ◌≤ℤ◌, ◌++◌, Bool, true, false, List, [], ◌∷◌, map, if◌then◌else◌, codes}
+use Rattle.std.specs.Fmt.{signed_decimal}
 use Rattle.isle_types.specs.declared.types.IntType.{IntType}
 use Rattle.isle_types.specs.declared.types.IntType.TheVariants.{U8, U16, U32, U64, U128, USize, I8, I16, I32, I64, I128, ISize}
 use Rattle.isle_types.specs.declared.types.BuiltinType.{BuiltinType}
@@ -57,6 +58,10 @@ least_of ty = if has_sign ty then negsuc (2 ^ (bits_of ty - 1) - 1) else pos 0
 -- the greatest number of an integer type
 abbrev pub greatest_of : IntType → ℤ
 greatest_of ty = if has_sign ty then pos (2 ^ (bits_of ty - 1) - 1) else pos (2 ^ bits_of ty - 1)
+
+-- the least and the greatest number, as they are told
+abbrev pub bounds_text : IntType → List ℕ
+bounds_text ty = signed_decimal (least_of ty) ++ (codes " to " ++ signed_decimal (greatest_of ty))
 
 -- an integer type has a number
 pub record HasNumber (ty : IntType) (n : ℤ) : Type 0 where

@@ -2,7 +2,7 @@
 ghost use Rattle.std.specs.Prelude.{◌≡◌, ◌↔◌, ◌-◌, ◌^◌, ◌≤ℤ◌, ℤ, pos, IsTrue, IfOk, map};
 ghost use Rattle.isle_types.specs.declared.types.StructField.{StructField};
 ghost use Rattle.isle_types.specs.declared.types.TupleField.{TupleField};
-ghost use Rattle.isle_types.specs.IntTypes.{int_name, has_sign, HasNumber, least_of, greatest_of, spelt_number, builtin_name, builtin_place};
+ghost use Rattle.isle_types.specs.IntTypes.{int_name, bounds_text, has_sign, HasNumber, least_of, greatest_of, spelt_number, builtin_name, builtin_place};
 
 mod parts;
 
@@ -87,8 +87,10 @@ impl IntType {
         }
     }
 
-    /// The numbers of the type, as a message tells them.
-    pub fn bounds(self) -> &'static str {
+    /// The least and the greatest number of the type, as a message tells them.
+    pub fn bounds(self) -> &'static str
+        ensures { result.now ≡ bounds_text self }
+    {
         match self {
             IntType::U8 => "0 to 255",
             IntType::U16 => "0 to 65535",

@@ -1,5 +1,5 @@
 -- Worked cases: why a command was not begun, and what is told of it.
-use Rattle.std.proofs.Common.{arith, ◌≡◌, ◌∷◌, ◌∙◌, ℕ, List, [], Option, Some, None, inl, inr, refl, sym, ap, subst, codes, alloc_error, length, min, take, take_all, true, false, true≢false, string_bytes, bytes_eq}
+use Rattle.std.proofs.Common.{arith, ◌≡◌, ◌∷◌, ◌∙◌, ℕ, List, [], Option, Some, None, Err, inl, inr, refl, sym, ap, subst, codes, alloc_error, length, min, take, take_all, true, false, true≢false, string_bytes, bytes_eq}
 use Rattle.std.proofs.lemmas.List.{length-take}
 use Rattle.std.specs.Global.{Global}
 use Rattle.std.specs.Io.KnownBytes.{Appends}
@@ -10,6 +10,7 @@ use Rattle.clap.specs.declared.error.kind.ErrorKind.TheVariants.{DisplayHelp, Di
 use Rattle.islec.specs.Beginnings.{AsksForHelp, BecomesUnbegun, IsUnread, IsUnreadWorld, TellsUnbegun, unread_lines}
 use Rattle.std.specs.declared.io.ErrorKind.TheVariants as kind
 use Rattle.islec.specs.Causes.{cause_text}
+use Rattle.islec.specs.Inputs.{Readings}
 use Rattle.islec.specs.Writing.{AppendsBeginning}
 use Rattle.islec.specs.declared.cause.Cause.TheVariants.{Fails}
 use Rattle.islec.specs.declared.line.LineFault.TheVariants as line_fault
@@ -30,20 +31,26 @@ memory_stays = refl
 
 -- ---- what files that aren't read become
 
-memory_is_unread : IsUnread [] Memory
-memory_is_unread = inl refl
+memory_is_unread : (gives : Readings) → IsUnread gives true None [] Memory
+memory_is_unread gives = inl refl
 
-file_is_unread : (name words : String Global) → string_bytes words ≡ codes "a directory" → IsUnread (name ∷ []) (CannotRead name words)
-file_is_unread name words is = inr (name, (0, omega arith, refl), (Fails kind.IsADirectory, inr (words, is, refl)))
+-- each file is a directory
+abbrev only_directories : Readings
+only_directories name given = given ≡ Err kind.IsADirectory
 
-no_file_is_unread : (name words : String Global) → IsUnread [] (CannotRead name words) → ⊥
-no_file_is_unread name words (inl is) = absurd cc
-no_file_is_unread name words (inr (other, (k, within, at), is)) = omega (arith, within)
+file_is_unread : (name words : String Global) → string_bytes words ≡ codes "a directory"
+    → IsUnread only_directories false None (name ∷ []) (CannotRead name words)
+file_is_unread name words is = inr (name, (0, omega arith, refl), inr (Fails kind.IsADirectory, refl, inr (words, is, refl)))
 
-words_are_not_unread : (name : String Global) → IsUnread (name ∷ []) NotText → ⊥
-words_are_not_unread name (inl is) = absurd cc
-words_are_not_unread name (inr (other, has, (cause, inl is))) = absurd cc
-words_are_not_unread name (inr (other, has, (cause, inr (words, text, is)))) = absurd cc
+no_file_is_unread : (gives : Readings) (name words : String Global) → IsUnread gives true None [] (CannotRead name words) → ⊥
+no_file_is_unread gives name words (inl is) = absurd cc
+no_file_is_unread gives name words (inr (other, (k, within, at), is)) = omega (arith, within)
+
+words_are_not_unread : (gives : Readings) (name : String Global) → IsUnread gives true None (name ∷ []) NotText → ⊥
+words_are_not_unread gives name (inl is) = absurd cc
+words_are_not_unread gives name (inr (other, has, inl is)) = absurd cc
+words_are_not_unread gives name (inr (other, has, inr (cause, of, inl is))) = absurd cc
+words_are_not_unread gives name (inr (other, has, inr (cause, of, inr (words, text, is)))) = absurd cc
 
 -- ---- causes in words
 
@@ -58,9 +65,9 @@ other_kind_is_told = refl
 
 -- ---- worlds that aren't read
 
-no_world_is_unread : (name words : String Global) → IsUnreadWorld None (CannotRead name words) → ⊥
-no_world_is_unread name words (inl is) = absurd cc
-no_world_is_unread name words (inr (own, named, is)) = absurd cc
+no_world_is_unread : (gives : Readings) (name words : String Global) → IsUnreadWorld gives None (CannotRead name words) → ⊥
+no_world_is_unread gives name words (inl is) = absurd cc
+no_world_is_unread gives name words (inr (own, named, is)) = absurd cc
 
 -- ---- help
 

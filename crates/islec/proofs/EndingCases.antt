@@ -11,6 +11,7 @@ use Rattle.isle_ast.specs.Positions.Files.{SourceFile}
 use Rattle.islec.specs.declared.answer.Manner.{Manner}
 use Rattle.islec.specs.Commands.{islec}
 use Rattle.islec.specs.Endings.{EndsJob, EndsCommand, IsWorld, done, told}
+use Rattle.islec.specs.Inputs.{Readings}
 use Rattle.islec.specs.Lines.{ReadsLine, SaysJob, names_of, world_of}
 use Rattle.islec.specs.Statuses.{code_of}
 use Rattle.islec.specs.declared.line.Job.{Job}
@@ -42,11 +43,11 @@ no_run_is_refused_its_words manner files world input left old new ends = ends
 
 -- ---- worlds
 
-no_world_is_empty : IsWorld None (record { name = codes "world"; text = [] })
-no_world_is_empty = refl
+no_world_is_empty : (gives : Readings) → IsWorld gives None (record { name = codes "world"; text = [] })
+no_world_is_empty gives = refl
 
-no_world_has_no_text : IsWorld None (record { name = codes "world"; text = codes "(" }) → ⊥
-no_world_has_no_text is = let wrong = ap (λ (file : SourceFile). file.text) is in absurd cc
+no_world_has_no_text : (gives : Readings) → IsWorld gives None (record { name = codes "world"; text = codes "(" }) → ⊥
+no_world_has_no_text gives is = let wrong = ap (λ (file : SourceFile). file.text) is in absurd cc
 
 -- ---- no command: it never ends well
 
@@ -64,24 +65,24 @@ lacks_only_that k among = only (subst (λ (ks : List ErrorKind). IsAmong k ks) a
     only (inl is) = is
     only (inr never) = absurd never
 
-alone_is_not_well : (input left old new : Option (List ℕ)) → EndsCommand alone input left old new 0 → ⊥
-alone_is_not_well input left old new (done line reads files named world of middle inputs ended code ends) =
+alone_is_not_well : (gives : Readings) (input left old new : Option (List ℕ)) → EndsCommand gives alone input left old new 0 → ⊥
+alone_is_not_well gives input left old new (done line reads files named world of middle inputs ended code ends) =
     let wrong = sym reads.taken ∙ alone_lacks_a_command in absurd cc
-alone_is_not_well input left old new (told (Usage e) holds status.AllWell code (inl other)) = absurd cc
-alone_is_not_well input left old new (told (Usage e) holds status.AllWell code (inr (inl (inl help, same)))) =
+alone_is_not_well gives input left old new (told (Usage e) holds status.AllWell code (inl other)) = absurd cc
+alone_is_not_well gives input left old new (told (Usage e) holds status.AllWell code (inr (inl (inl help, same)))) =
     let wrong = sym (lacks_only_that (kind_of e) holds) ∙ help in absurd cc
-alone_is_not_well input left old new (told (Usage e) holds status.AllWell code (inr (inl (inr version, same)))) =
+alone_is_not_well gives input left old new (told (Usage e) holds status.AllWell code (inr (inl (inr version, same)))) =
     let wrong = sym (lacks_only_that (kind_of e) holds) ∙ version in absurd cc
-alone_is_not_well input left old new (told (Usage e) holds status.AllWell code (inr (inr (no_help, other)))) = absurd cc
-alone_is_not_well input left old new (told (Usage e) holds status.TextsRefused code tells) = absurd cc
-alone_is_not_well input left old new (told (Usage e) holds status.Usage code tells) = absurd cc
-alone_is_not_well input left old new (told (Usage e) holds status.SomeRefused code tells) = absurd cc
-alone_is_not_well input left old new (told (Usage e) holds status.InputOutput code tells) = absurd cc
-alone_is_not_well input left old new (told (Usage e) holds status.OutOfMemory code tells) = absurd cc
-alone_is_not_well input left old new (told NotText holds ended code tells) = absurd holds
-alone_is_not_well input left old new (told (CannotRead name words) (line, reads, names, cause) ended code tells) =
+alone_is_not_well gives input left old new (told (Usage e) holds status.AllWell code (inr (inr (no_help, other)))) = absurd cc
+alone_is_not_well gives input left old new (told (Usage e) holds status.TextsRefused code tells) = absurd cc
+alone_is_not_well gives input left old new (told (Usage e) holds status.Usage code tells) = absurd cc
+alone_is_not_well gives input left old new (told (Usage e) holds status.SomeRefused code tells) = absurd cc
+alone_is_not_well gives input left old new (told (Usage e) holds status.InputOutput code tells) = absurd cc
+alone_is_not_well gives input left old new (told (Usage e) holds status.OutOfMemory code tells) = absurd cc
+alone_is_not_well gives input left old new (told NotText holds ended code tells) = absurd holds
+alone_is_not_well gives input left old new (told (CannotRead name words) (line, reads, why) ended code tells) =
     let wrong = sym reads.taken ∙ alone_lacks_a_command in absurd cc
-alone_is_not_well input left old new (told Memory holds ended code (same, wrote)) = let wrong = code ∙ ap code_of same in absurd cc
+alone_is_not_well gives input left old new (told Memory holds ended code (same, wrote)) = let wrong = code ∙ ap code_of same in absurd cc
 
 -- ---- a run of two files in a world, in the words of `CommandCases`: the files and the world have just these names
 
@@ -107,11 +108,13 @@ world_is (Fmt width unformatted) name rows met (named, number, flag) =
     let wrong : true ≡ false = ap (λ (text : Text). bytes_eq text (codes "run")) (sym is_run ∙ named) in
     absurd (true≢false wrong)
 
-has_name : (world : Option (String Global)) (file : SourceFile) → option_map string_bytes world ≡ Some (codes "w.isle") → IsWorld world file
+has_name : (gives : Readings) (world : Option (String Global)) (file : SourceFile) → option_map string_bytes world ≡ Some (codes "w.isle")
+    → IsWorld gives world file
     → file.name ≡ codes "w.isle"
-has_name None file none is = absurd cc
-has_name (Some name) file some is = is ∙ same_Some _ _ some
+has_name gives None file none is = absurd cc
+has_name gives (Some name) file some (is, given) = is ∙ same_Some _ _ some
 
-run_names_its_world : (line : Line) (file : SourceFile) → ReadsLine run_words line → IsWorld line.world file → file.name ≡ codes "w.isle"
-run_names_its_world line file reads is =
-    has_name line.world file (reads.says.world ∙ world_is line.job reads.name reads.rows reads.met reads.says.job) is
+run_names_its_world : (gives : Readings) (line : Line) (file : SourceFile) → ReadsLine run_words line → IsWorld gives line.world file
+    → file.name ≡ codes "w.isle"
+run_names_its_world gives line file reads is =
+    has_name gives line.world file (reads.says.world ∙ world_is line.job reads.name reads.rows reads.met reads.says.job) is

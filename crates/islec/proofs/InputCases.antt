@@ -1,9 +1,16 @@
 -- Worked cases: which files are standard input, what they take of it, and what is told of files that are formatted or not.
-use Rattle.std.proofs.Common.{◌≡◌, ◌∙◌, ◌∷◌, ◌++◌, ℕ, List, [], Option, Some, None, refl, sym, ap, true, false, true≢false, codes, bytes_eq}
+use Rattle.std.proofs.Common.{◌≡◌, ◌∙◌, ◌∷◌, ◌++◌, ℕ, List, [], Option, Some, None, Ok, refl, sym, ap, subst, true, false, true≢false, codes, bytes_eq}
+use Rattle.std.proofs.lemmas.Str.{IsUtf8-from_is_utf8, is_utf8-from_IsUtf8}
+use Rattle.std.specs.Char.{encode_utf8}
+use Rattle.std.specs.Str.{IsUtf8, chars, is_utf8}
+use Rattle.std.specs.Str.Lossy.{utf8_valid_len}
+use Rattle.std.specs.declared.io.ErrorKind.TheVariants as kind
 use Rattle.std.proofs.lemmas.Option.{same_Some}
 use Rattle.isle_ast.specs.Positions.Files.{SourceFile}
+use Rattle.islec.specs.Beginnings.{IsCauseOf}
 use Rattle.islec.specs.Formatting.{status_behind, told_of}
-use Rattle.islec.specs.Inputs.{ReadsFiles, is_input}
+use Rattle.islec.specs.Inputs.{Readings, ReadsFiles, is_input}
+use Rattle.islec.specs.declared.cause.Cause.TheVariants.{NotUtf8, Fails}
 use Rattle.islec.specs.declared.status.Status.TheVariants.{AllWell, TextsRefused}
 
 dash_is_input : is_input true (codes "-") ≡ true
@@ -18,19 +25,47 @@ queries_are_no_file = refl
 abbrev file : List ℕ → List ℕ → SourceFile
 file name text = record { name = name; text = text }
 
--- the first takes all, and the second nothing
-input_is_read_once : ReadsFiles true (file (codes "-") (codes "ab") ∷ file (codes "a") (codes "c") ∷ file (codes "-") [] ∷ [])
-    (Some (codes "ab")) (Some [])
-input_is_read_once = (Some [], (refl, refl), (Some [], refl, (Some [], (refl, refl), refl)))
+-- each file holds the byte of `c`
+abbrev has_c : Readings
+has_c name given = given ≡ Ok (codes "c")
 
-part_is_not_read : (left : Option (List ℕ)) → ReadsFiles true (file (codes "-") (codes "a") ∷ []) (Some (codes "ab")) left → ⊥
+-- the first takes all, and the others nothing
+input_is_read_once : ReadsFiles has_c true (file (codes "-") (codes "ab") ∷ file (codes "a") (codes "c") ∷ file (codes "-") [] ∷ [])
+    (Some (codes "ab")) (Some [])
+input_is_read_once = (Some [], (refl, refl), (Some [], (refl, refl), (Some [], (refl, refl), refl)))
+
+part_is_not_read : (left : Option (List ℕ)) → ReadsFiles has_c true (file (codes "-") (codes "a") ∷ []) (Some (codes "ab")) left → ⊥
 part_is_not_read left (None, (took, end), same) = took
 part_is_not_read left (Some rest, (took, end), same) =
     let is : codes "ab" ≡ codes "a" = took ∙ ap (λ (bytes : List ℕ). codes "a" ++ bytes) end in
     let wrong : true ≡ false = ap (λ (text : List ℕ). bytes_eq text (codes "ab")) is in absurd (true≢false wrong)
 
-file_takes_nothing : (input left : Option (List ℕ)) → ReadsFiles true (file (codes "a") (codes "ab") ∷ []) input left → left ≡ input
-file_takes_nothing input left (middle, same, also) = also ∙ same
+file_takes_nothing : (input left : Option (List ℕ)) → ReadsFiles has_c true (file (codes "a") (codes "c") ∷ []) input left → left ≡ input
+file_takes_nothing input left (middle, (given, same), also) = also ∙ same
+
+-- another text than the file holds is not read of it
+no_other_text_is_read : (input left : Option (List ℕ)) → ReadsFiles has_c true (file (codes "a") [] ∷ []) input left → ⊥
+no_other_text_is_read input left (middle, (given, same), also) = absurd cc
+
+-- ---- why a file isn't read
+
+-- a file that holds `c` isn't told to be missing
+a_held_file_is_not_missing : IsCauseOf (has_c (codes "a")) (Fails kind.NotFound) → ⊥
+a_held_file_is_not_missing failed = absurd cc
+
+-- nor to be no text
+a_text_is_not_told_to_be_none : (at : ℕ) → IsCauseOf (has_c (codes "a")) (NotUtf8 at) → ⊥
+unfolding is_utf8 chars encode_utf8
+a_text_is_not_told_to_be_none at (bytes, given, not_utf8, is) =
+    let same : codes "c" ≡ bytes = cc in not_utf8 (subst (λ (text : List ℕ). IsUtf8 text) same (IsUtf8-from_is_utf8 (codes "c") refl))
+
+-- a byte 255 is no text from the first on
+abbrev has_no_text : Readings
+has_no_text name given = given ≡ Ok (255 ∷ [])
+
+no_text_is_told_at_its_first_byte : IsCauseOf (has_no_text (codes "a")) (NotUtf8 0)
+unfolding is_utf8 chars utf8_valid_len
+no_text_is_told_at_its_first_byte = (255 ∷ [], refl, λ utf8. true≢false (sym (is_utf8-from_IsUtf8 (255 ∷ []) utf8)), refl)
 
 -- ---- formatted files
 

@@ -1,15 +1,18 @@
 -- Why a command was not begun, and what is told of it.
-use Rattle.std.specs.Prelude.{◌≡◌, ◌⊎◌, ◌++◌, ℕ, List, Option, Some, String, codes, string_bytes}
+use Rattle.std.specs.Prelude.{◌≡◌, ◌⊎◌, ◌++◌, ℕ, Bool, List, Option, Some, String, Result, Ok, Err, codes, string_bytes}
 use Rattle.std.specs.Global.{Global}
 use Rattle.std.specs.List.{Contains}
 use Rattle.std.specs.Io.KnownBytes.{Appends}
 use Rattle.clap.specs.Words.{kind_of}
 use Rattle.clap.specs.declared.error.Error.{Error}
 use Rattle.clap.specs.declared.error.kind.ErrorKind.TheVariants.{DisplayHelp, DisplayVersion}
+use Rattle.std.specs.Str.{IsUtf8}
 use Rattle.std.specs.Str.Lossy.{utf8_valid_len}
+use Rattle.std.specs.declared.io.ErrorKind.{ErrorKind}
 use Rattle.islec.specs.Causes.{cause_text}
+use Rattle.islec.specs.Inputs.{Readings, GivesFile, is_input}
 use Rattle.islec.specs.declared.cause.Cause.{Cause}
-use Rattle.islec.specs.declared.cause.Cause.TheVariants.{NotUtf8}
+use Rattle.islec.specs.declared.cause.Cause.TheVariants.{NotUtf8, Fails}
 use Rattle.islec.specs.declared.line.LineFault.{LineFault}
 use Rattle.islec.specs.declared.line.LineFault.TheVariants as line_fault
 use Rattle.islec.specs.declared.program.Unbegun.{Unbegun}
@@ -28,21 +31,28 @@ abbrev pub IsUnreadFor : String Global → Cause → Unbegun → Type 0
 IsUnreadFor name cause unbegun =
     (unbegun ≡ Memory) ⊎ ((words : String Global) × (string_bytes words ≡ cause_text cause) × (unbegun ≡ CannotRead name words))
 
--- the same, for some cause
-abbrev pub IsUnreadFile : String Global → Unbegun → Type 0
-IsUnreadFile name unbegun = (cause : Cause) × IsUnreadFor name cause unbegun
+-- why a file isn't read, of which reading may give so: bytes that aren't UTF-8 from one on, or an error of the kind
+abbrev pub IsCauseOf : (Gives : Result (List ℕ) ErrorKind → Type 0) → Cause → Type 0
+IsCauseOf Gives (NotUtf8 at) = (bytes : List ℕ) × Gives (Ok bytes) × (¬ IsUtf8 bytes) × (at ≡ utf8_valid_len bytes)
+IsCauseOf Gives (Fails kind) = Gives (Err kind)
 
--- memory ran out, or the file of this name has bytes that aren't UTF-8 from some byte on
+-- memory ran out, or the file of this name can't be read, for such a cause
+abbrev pub IsUnreadFile : (Gives : Result (List ℕ) ErrorKind → Type 0) → String Global → Unbegun → Type 0
+IsUnreadFile Gives name unbegun = (unbegun ≡ Memory) ⊎ ((cause : Cause) × IsCauseOf Gives cause × IsUnreadFor name cause unbegun)
+
+-- memory ran out, or the file of this name has these bytes, which aren't UTF-8 from some byte on
 abbrev pub IsNoText : String Global → List ℕ → Unbegun → Type 0
-IsNoText name bytes unbegun = IsUnreadFor name (NotUtf8 (utf8_valid_len bytes)) unbegun
+IsNoText name bytes unbegun = (¬ IsUtf8 bytes) × IsUnreadFor name (NotUtf8 (utf8_valid_len bytes)) unbegun
 
--- memory ran out, or a file of these names can't be read
-abbrev pub IsUnread : List (String Global) → Unbegun → Type 0
-IsUnread names unbegun = (unbegun ≡ Memory) ⊎ ((name : String Global) × Contains names name × IsUnreadFile name unbegun)
+-- memory ran out, or a file of these names, of which those named `-` may be standard input, can't be read
+abbrev pub IsUnread : Readings → (reads : Bool) → (input : Option (List ℕ)) → List (String Global) → Unbegun → Type 0
+IsUnread gives reads input names unbegun = (unbegun ≡ Memory) ⊎ ((name : String Global) × Contains names name
+    × IsUnreadFile (GivesFile (is_input reads (string_bytes name)) (gives (string_bytes name)) input) name unbegun)
 
 -- memory ran out, or the file of that name can't be read, where one is named
-abbrev pub IsUnreadWorld : Option (String Global) → Unbegun → Type 0
-IsUnreadWorld name unbegun = (unbegun ≡ Memory) ⊎ ((own : String Global) × (name ≡ Some own) × IsUnreadFile own unbegun)
+abbrev pub IsUnreadWorld : Readings → Option (String Global) → Unbegun → Type 0
+IsUnreadWorld gives name unbegun =
+    (unbegun ≡ Memory) ⊎ ((own : String Global) × (name ≡ Some own) × IsUnreadFile (gives (string_bytes own)) own unbegun)
 
 -- help or the version is asked for
 abbrev pub AsksForHelp : Error → Type 0

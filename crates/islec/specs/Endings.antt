@@ -1,22 +1,23 @@
 -- How a whole command ends, by its words.
-use Rattle.std.specs.Prelude.{◌≡◌, ◌⊎◌, ℕ, Bool, true, false, List, [], Option, Some, None, String, map, codes, string_bytes, ⊤}
+use Rattle.std.specs.Prelude.{◌≡◌, ◌⊎◌, ℕ, Bool, true, false, List, [], Option, Some, None, String, Result, Ok, map, codes, string_bytes, ⊤}
 use Rattle.std.specs.Global.{Global}
 use Rattle.std.specs.List.{Contains}
-use Rattle.std.specs.Option.{option_map}
+use Rattle.std.specs.declared.io.ErrorKind.{ErrorKind}
 use Rattle.clap.specs.Words.{IsAmong, Text, fault_of, kind_of}
 use Rattle.isle_ast.specs.Positions.Files.{SourceFile, source_file}
 use Rattle.isle_program.specs.Compiled.{AreAccepted}
 use Rattle.islec.specs.declared.answer.Manner.{Manner}
-use Rattle.islec.specs.Beginnings.{TellsUnbegun}
+use Rattle.islec.specs.Beginnings.{IsCauseOf, TellsUnbegun}
 use Rattle.islec.specs.Causes.{cause_text}
 use Rattle.islec.specs.Commands.{islec}
 use Rattle.islec.specs.Drawing.{WritesTrees, WritesUnknown, CutsTrees}
 use Rattle.islec.specs.Formatting.{WritesPrints, RefusesPrints, CutsPrints}
-use Rattle.islec.specs.Inputs.{ReadsFiles}
+use Rattle.islec.specs.Inputs.{Readings, GivesFile, ReadsFiles, is_input}
 use Rattle.islec.specs.Jobs.{reads_input}
 use Rattle.islec.specs.Lines.{ReadsLine, names_of}
 use Rattle.islec.specs.Running.{WritesFaults, WritesAccepted, WritesAnswers, WritesRefusal, CutsCheck, CutsRun, RunsOut}
 use Rattle.islec.specs.Statuses.{code_of}
+use Rattle.islec.specs.Worlds.{world_file}
 use Rattle.islec.specs.Writing.{AppendsBeginning}
 use Rattle.islec.specs.declared.cause.Cause.{Cause}
 use Rattle.islec.specs.declared.line.Job.{Job}
@@ -72,40 +73,46 @@ EndsJob (Check telling) files world input left old new status = EndsCheck tellin
 EndsJob (Blocks terms dot) files world input left old new status = EndsBlocks (names_of terms) dot files old new status × (left ≡ input)
 EndsJob (Fmt width unformatted) files world input left old new status = EndsFmt unformatted width files old new status × (left ≡ input)
 
--- the file has the name that a line gives its world; where it gives none it is empty and named `world`
-abbrev pub IsWorld : Option (String Global) → SourceFile → Type 0
-IsWorld None file = file ≡ record { name = codes "world"; text = [] }
-IsWorld (Some name) file = file.name ≡ string_bytes name
+-- the file has the name that a line gives its world, and a text that reading it gives; where the line gives none it is empty and named `world`
+abbrev pub IsWorld : Readings → Option (String Global) → SourceFile → Type 0
+IsWorld gives None file = file ≡ record { name = codes "world"; text = [] }
+IsWorld gives (Some name) file = (file.name ≡ string_bytes name) × gives file.name (Ok file.text)
 
--- the line names this file, as one of its rules or as its world
-abbrev pub Names : Line → String Global → Type 0
-Names line name = Contains line.files.items name ⊎ (line.world ≡ Some name)
+-- the words tell why a file isn't read, of which reading may give so
+abbrev pub TellsCause : (Gives : Result (List ℕ) ErrorKind → Type 0) → String Global → Type 0
+TellsCause Gives told = (cause : Cause) × IsCauseOf Gives cause × (string_bytes told ≡ cause_text cause)
+
+-- the words tell why one of the line's files isn't read, or its world
+abbrev pub TellsUnread : Readings → (input : Option (List ℕ)) → Line → (name told : String Global) → Type 0
+TellsUnread gives input line name told = (Contains line.files.items name
+    × TellsCause (GivesFile (is_input (reads_input line.job) (string_bytes name)) (gives (string_bytes name)) input) told)
+    ⊎ ((line.world ≡ Some name) × TellsCause (gives (string_bytes name)) told)
 
 -- why a command of these words may not begin: they have that fault, or a file that they name can't be read, for a cause that is told, or
 -- memory ran out
-abbrev pub HoldsBack : List Text → Unbegun → Type 0
-HoldsBack words (unbegun.Usage error) = IsAmong (kind_of error) (fault_of islec words)
-HoldsBack words unbegun.NotText = ⊥
-HoldsBack words (unbegun.CannotRead name words_of_cause) = (line : Line) × ReadsLine words line × Names line name
-    × ((cause : Cause) × (string_bytes words_of_cause ≡ cause_text cause))
-HoldsBack words unbegun.Memory = ⊤
+abbrev pub HoldsBack : Readings → List Text → (input : Option (List ℕ)) → Unbegun → Type 0
+HoldsBack gives words input (unbegun.Usage error) = IsAmong (kind_of error) (fault_of islec words)
+HoldsBack gives words input unbegun.NotText = ⊥
+HoldsBack gives words input (unbegun.CannotRead name told) = (line : Line) × ReadsLine words line × TellsUnread gives input line name told
+HoldsBack gives words input unbegun.Memory = ⊤
 
--- how a command of these words ends, and what it writes: what the job of their line does on files of the names that they have, in order, of
--- which those that are standard input are read from it; or what is told of why it may not begin
-pub data EndsCommand (words : List Text) (input left old new : Option (List ℕ)) (code : ℕ) : Type 0 where
+-- How a command of these words ends, where reading files gives so, and what it writes: what the job of their line does on the files of the
+-- names that they have, in order, of which those that are standard input are read from it; or what is told of why it may not begin.
+pub data EndsCommand (gives : Readings) (words : List Text) (input left old new : Option (List ℕ)) (code : ℕ) : Type 0 where
   done : (line : Line) → ReadsLine words line → (files : List SourceFile) → map (λ file. file.name) files ≡ names_of line.files
-      → (world : SourceFile) → IsWorld line.world world → (middle : Option (List ℕ)) → ReadsFiles (reads_input line.job) files input middle
+      → (world : SourceFile) → IsWorld gives line.world world → (middle : Option (List ℕ))
+      → ReadsFiles gives (reads_input line.job) files input middle
       → (status : Status) → code ≡ code_of status → EndsJob line.job files world middle left old new status
-      → EndsCommand words input left old new code
-  told : (why : Unbegun) → HoldsBack words why → (status : Status) → code ≡ code_of status → TellsUnbegun why status old new
-      → EndsCommand words input left old new code
+      → EndsCommand gives words input left old new code
+  told : (why : Unbegun) → HoldsBack gives words input why → (status : Status) → code ≡ code_of status → TellsUnbegun why status old new
+      → EndsCommand gives words input left old new code
 
 -- a command begins as its words say: with their job, and with a text under each name that they have, in order, for which it has read what is
 -- no longer left of the input
-pub record Begins (words : List Text) (input left : Option (List ℕ)) (begun : Begun) : Type 0 where
+pub record Begins (gives : Readings) (words : List Text) (input left : Option (List ℕ)) (begun : Begun) : Type 0 where
   pub line : Line
   pub reads : ReadsLine words line
   pub job : begun.job ≡ line.job
   pub texts : map (λ text. text.0) begun.texts.items ≡ line.files.items
-  pub world : option_map (λ text. text.0) begun.world ≡ line.world
-  pub inputs : ReadsFiles (reads_input line.job) (map source_file begun.texts.items) input left
+  pub world : IsWorld gives line.world (world_file begun.world)
+  pub inputs : ReadsFiles gives (reads_input line.job) (map source_file begun.texts.items) input left

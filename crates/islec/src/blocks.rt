@@ -40,7 +40,11 @@ pub fn blocks<W: Write>(
 {
     let files = Rc::new(alloc, Files::from_names_and_contents(alloc, texts)?)?;
     match compile(alloc, files.clone()?) {
-        Ok(program) => draw(alloc, names, dot, &files, &program, writer),
+        Ok(program) => {
+            let ended = draw(alloc, names, dot, &files, &program, writer);
+            program.release();
+            ended
+        }
         Err(Refused::Faults(errors)) => refuse(alloc, false, &errors, writer),
         Err(Refused::Memory) => Err(ServeFault::Memory),
     }

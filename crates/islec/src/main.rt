@@ -10,6 +10,7 @@ pub mod line;
 pub mod perform;
 pub mod program;
 pub mod serve;
+pub mod sources;
 pub mod status;
 pub mod terms;
 pub mod warn;

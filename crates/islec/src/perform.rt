@@ -110,7 +110,11 @@ fn run<R: BufRead, W: Write>(
 {
     let files = Rc::new(alloc, Files::from_names_and_contents(alloc, texts)?)?;
     match compile(alloc, files.clone()?) {
-        Ok(program) => run_program(alloc, &program, &files, world, manner, reader, writer),
+        Ok(program) => {
+            let ended = run_program(alloc, &program, &files, world, manner, reader, writer);
+            program.release();
+            ended
+        }
         Err(Refused::Faults(errors)) => refuse(alloc, manner.explain, &errors, writer),
         Err(Refused::Memory) => Err(ServeFault::Memory),
     }
@@ -358,7 +362,11 @@ fn check<W: Write>(
 {
     let files = Rc::new(alloc, Files::from_names_and_contents(alloc, texts)?)?;
     match compile(alloc, files.clone()?) {
-        Ok(program) => tell(alloc, telling, &program, &files, writer),
+        Ok(program) => {
+            let ended = tell(alloc, telling, &program, &files, writer);
+            program.release();
+            ended
+        }
         Err(Refused::Faults(errors)) => refuse(alloc, telling.explain, &errors, writer),
         Err(Refused::Memory) => Err(ServeFault::Memory),
     }

@@ -1,11 +1,12 @@
 //! The program: words, files, and the command on them.
-ghost use Rattle.std.specs.Prelude.{◌≡◌, ◌⊎◌, true, IfOk, IfErr, OnOk, OnErr, map, option_map, string_bytes};
-ghost use Rattle.std.specs.Io.KnownBytes.{Appends};
+ghost use Rattle.std.specs.Prelude.{◌≡◌, ◌⊎◌, true, Ok, IfOk, IfErr, OnOk, OnErr, map, string_bytes};
+ghost use Rattle.std.specs.Io.KnownBytes.{Appends, Consumes, IsAtEnd};
 ghost use Rattle.islec.specs.Beginnings.{BecomesUnbegun, TellsUnbegun, IsNoText, IsUnread, IsUnreadFile, IsUnreadFor, IsUnreadWorld, line_of_two, unread_lines};
-ghost use Rattle.islec.specs.Endings.{Begins, EndsCommand, HoldsBack};
+ghost use Rattle.islec.specs.Endings.{Begins, EndsCommand, HoldsBack, IsWorld};
 ghost use Rattle.isle_ast.specs.Positions.Files.{source_file};
-ghost use Rattle.islec.specs.Inputs.{ReadsFile, ReadsFiles, ReadsText, is_input as the_input};
+ghost use Rattle.islec.specs.Inputs.{GivesFile, GivesInput, ReadsFile, ReadsFiles, ReadsText, is_input as the_input};
 ghost use Rattle.islec.specs.Statuses.{code_of};
+ghost use Rattle.islec.specs.Worlds.{world_file};
 ghost use Rattle.islec.specs.Writing.{AppendsBeginning};
 ghost use Rattle.islec.specs.declared.status.Status.{Status};
 ghost use Rattle.islec.specs.declared.program.Unbegun.TheVariants.{Memory};
@@ -14,12 +15,13 @@ use crate::cause::{Cause, cause_words};
 use crate::line::{Job, Line, LineFault, line_of};
 use crate::perform::perform;
 use crate::serve::{ServeFault, write_text};
+use crate::sources::{Disk, ReadFault, Sources};
 use crate::status::{Status, out_of_memory};
 use std::alloc::{AllocError, AllocFailed, Global};
 use std::env::Env;
 use std::io::{BufRead, BufReader, ErrorKind, Write};
 use std::rt::Files;
-use std::{env, fs, io};
+use std::{env, io};
 
 /// Why the command was not begun.
 #[derive(Drop)]
@@ -79,40 +81,52 @@ pub fn run<R: Env + Files + Input + Print + AllocGlobal>(rt: &R) -> u8
         return out_of_memory(&mut output).code();
     };
     match read_words(rt) {
-        Ok(words) => command(rt, words.as_slice(), &mut input, &mut output),
+        Ok(words) => {
+            let sources = Disk { rt };
+            command(
+                rt.alloc(),
+                &sources,
+                words.as_slice(),
+                &mut input,
+                &mut output,
+            )
+        }
         Err(unbegun) => tell(unbegun, &mut output).code(),
     }
 }
 
 /// Reads the files that words name, all before anything is compiled, does the job that they say, and gives the exit status; or tells why it can't
 /// begin. A file named `-` is the input, where that has no queries.
-pub fn command<R: Files + AllocGlobal, I: BufRead, W: Write>(
-    rt: &R,
+pub fn command<S: Sources, I: BufRead, W: Write>(
+    alloc: Global,
+    sources: &S,
     words: &[String],
     input: &mut I,
     output: &mut W,
 ) -> u8
-    ensures ends { EndsCommand (map string_bytes words.now) (I.remaining input.old) (I.remaining input.new)
+    ensures ends { EndsCommand (S.gives sources.now) (map string_bytes words.now) (I.remaining input.old) (I.remaining input.new)
         (W.contents output.old) (W.contents output.new) result }
 {
-    match begin(rt, words, input) {
-        Ok(Begun { job, texts, world }) => perform(rt.alloc(), job, texts, world, input, output),
+    match begin(alloc, sources, words, input) {
+        Ok(Begun { job, texts, world }) => perform(alloc, job, texts, world, input, output),
         Err(unbegun) => tell(unbegun, output).code(),
     }
 }
 
 // Reads the files that words name.
-fn begin<R: Files + AllocGlobal, I: BufRead>(
-    rt: &R,
+fn begin<S: Sources, I: BufRead>(
+    alloc: Global,
+    sources: &S,
     words: &[String],
     input: &mut I,
 ) -> Result<Begun, Unbegun>
-    ensures begun { IfOk result (Begins (map string_bytes words.now) (I.remaining input.old) (I.remaining input.new)) }
-    ensures refused { IfErr result (HoldsBack (map string_bytes words.now)) }
+    ensures begun { IfOk result (Begins (S.gives sources.now) (map string_bytes words.now)
+        (I.remaining input.old) (I.remaining input.new)) }
+    ensures refused { IfErr result (HoldsBack (S.gives sources.now) (map string_bytes words.now) (I.remaining input.old)) }
 {
-    let Line { job, files, world } = line_of(rt.alloc(), words)?;
-    let texts = read_texts(rt, files, job.reads_input(), input)?;
-    let world = read_world(rt, world)?;
+    let Line { job, files, world } = line_of(alloc, words)?;
+    let texts = read_texts(alloc, sources, files, job.reads_input(), input)?;
+    let world = read_world(alloc, sources, world)?;
     Ok(Begun { job, texts, world })
 }
 
@@ -128,39 +142,43 @@ fn read_words<R: Env + AllocGlobal>(rt: &R) -> Result<Vec<String>, Unbegun>
 }
 
 // The files of these names, in order, of which those named `-` may be standard input.
-fn read_texts<R: Files + AllocGlobal, I: BufRead>(
-    rt: &R,
+fn read_texts<S: Sources, I: BufRead>(
+    alloc: Global,
+    sources: &S,
     names: Vec<String>,
     reads_input: bool,
     input: &mut I,
 ) -> Result<Vec<(String, String)>, Unbegun>
     ensures named { IfOk result (λ texts. map (λ text. text.0) texts.items ≡ names.items) }
-    ensures inputs { IfOk result (λ texts. ReadsFiles reads_input (map source_file texts.items)
+    ensures inputs { IfOk result (λ texts. ReadsFiles (S.gives sources.now) reads_input (map source_file texts.items)
         (I.remaining input.old) (I.remaining input.new)) }
-    ensures refused { IfErr result (IsUnread names.items) }
+    ensures refused { IfErr result (IsUnread (S.gives sources.now) reads_input (I.remaining input.old) names.items) }
 {
-    let mut texts = Vec::new(rt.alloc());
+    let mut texts = Vec::new(alloc);
     for name in names {
-        texts.push(read_file(rt, name, reads_input, input)?)?;
+        texts.push(read_file(alloc, sources, name, reads_input, input)?)?;
     }
     Ok(texts)
 }
 
 // The name and the contents of a file, which may be standard input.
-fn read_file<R: Files + AllocGlobal, I: BufRead>(
-    rt: &R,
+fn read_file<S: Sources, I: BufRead>(
+    alloc: Global,
+    sources: &S,
     name: String,
     reads_input: bool,
     input: &mut I,
 ) -> Result<(String, String), Unbegun>
     ensures named { IfOk result (λ text. text.0 ≡ name) }
-    ensures inputs { IfOk result (λ text. ReadsFile reads_input (source_file text) (I.remaining input.old) (I.remaining input.new)) }
-    ensures refused { IfErr result (IsUnreadFile name) }
+    ensures inputs { IfOk result (λ text. ReadsFile (S.gives sources.now) reads_input (source_file text)
+        (I.remaining input.old) (I.remaining input.new)) }
+    ensures refused { IfErr result (IsUnreadFile (GivesFile (the_input reads_input (string_bytes name))
+        (S.gives sources.now (string_bytes name)) (I.remaining input.old)) name) }
 {
     if is_input(reads_input, name.as_str()) {
-        read_input(rt.alloc(), name, input)
+        read_input(alloc, name, input)
     } else {
-        read_text(rt, name)
+        read_text(alloc, sources, name)
     }
 }
 
@@ -178,8 +196,9 @@ fn read_input<I: BufRead>(
     input: &mut I,
 ) -> Result<(String, String), Unbegun>
     ensures named { IfOk result (λ text. text.0 ≡ name) }
-    ensures inputs { IfOk result (λ text. ReadsText true (string_bytes text.1) (I.remaining input.old) (I.remaining input.new)) }
-    ensures refused { IfErr result (IsUnreadFile name) }
+    ensures taken { IfOk result (λ text. Consumes (I.remaining input.old) (I.remaining input.new) (string_bytes text.1)) }
+    ensures whole { IfOk result (λ text. IsAtEnd (I.remaining input.new)) }
+    ensures refused { IfErr result (IsUnreadFile (GivesInput (I.remaining input.old)) name) }
 {
     let mut bytes = Vec::new(alloc);
     match input.read_to_end(&mut bytes) {
@@ -190,28 +209,34 @@ fn read_input<I: BufRead>(
 }
 
 // The world's file, where one is named.
-fn read_world<R: Files + AllocGlobal>(
-    rt: &R,
+fn read_world<S: Sources>(
+    alloc: Global,
+    sources: &S,
     name: Option<String>,
 ) -> Result<Option<(String, String)>, Unbegun>
-    ensures named { IfOk result (λ world. option_map (λ text. text.0) world ≡ name) }
-    ensures refused { IfErr result (IsUnreadWorld name) }
+    ensures world { IfOk result (λ world. IsWorld (S.gives sources.now) name (world_file world)) }
+    ensures refused { IfErr result (IsUnreadWorld (S.gives sources.now) name) }
 {
     match name {
-        Some(name) => Ok(Some(read_text(rt, name)?)),
+        Some(name) => Ok(Some(read_text(alloc, sources, name)?)),
         None => Ok(None),
     }
 }
 
 // The name and the contents of a file.
-fn read_text<R: Files + AllocGlobal>(rt: &R, name: String) -> Result<(String, String), Unbegun>
+fn read_text<S: Sources>(
+    alloc: Global,
+    sources: &S,
+    name: String,
+) -> Result<(String, String), Unbegun>
     ensures named { IfOk result (λ text. text.0 ≡ name) }
-    ensures refused { IfErr result (IsUnreadFile name) }
+    ensures given { IfOk result (λ text. S.gives sources.now (string_bytes name) (Ok (string_bytes text.1))) }
+    ensures refused { IfErr result (IsUnreadFile (S.gives sources.now (string_bytes name)) name) }
 {
-    match fs::read(rt, name.as_str()) {
-        Ok(bytes) => text_of(rt.alloc(), name, bytes),
-        Err(error) if error.kind() == ErrorKind::OutOfMemory => Err(Unbegun::Memory),
-        Err(error) => Err(unread(rt.alloc(), name, Cause::Fails(error.kind()))),
+    match sources.read(alloc, name.as_str()) {
+        Ok(bytes) => text_of(alloc, name, bytes),
+        Err(ReadFault::Fails(kind)) => Err(unread(alloc, name, Cause::Fails(kind))),
+        Err(ReadFault::Memory) => Err(Unbegun::Memory),
     }
 }
 

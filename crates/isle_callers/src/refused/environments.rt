@@ -138,14 +138,22 @@ pub fn read_terms(alloc: Global) -> Result<Tried, AllocError> {
     read_over(alloc, defs.as_slice(), &before)
 }
 
-/// Copies terms and rules, and tells of how many terms and rules there are.
-fn copied(alloc: Global, terms: &TermEnv) -> Result<Tried, AllocError> {
-    let copy: Result<TermEnv, AllocError> = terms.clone();
+/// How many terms and rules there are.
+fn counted(alloc: Global, terms: &TermEnv, is_answered: bool) -> Result<Tried, AllocError> {
     let (count, rules) = (terms.terms().len(), terms.rules().len());
     Ok(Tried {
-        is_answered: copy.is_ok(),
+        is_answered,
         state: format!(in alloc; "{count} terms, {rules} rules")?,
     })
+}
+
+/// Copies terms and rules, and tells of how many the copy has; those that were to be copied where there is none.
+fn copied(alloc: Global, terms: &TermEnv) -> Result<Tried, AllocError> {
+    let copy: Result<TermEnv, AllocError> = terms.clone();
+    match &copy {
+        Ok(copy) => counted(alloc, copy, true),
+        Err(_) => counted(alloc, terms, false),
+    }
 }
 
 /// Copies the terms and rules of definitions.

@@ -38,7 +38,7 @@ use Rattle.isle_layout.proofs.ReadsBack.Terms.{whole_pattern_again}
 
 -- ---- whole expressions
 
-expr_there : (t : ExprTree) → expr_of (expr_from t) ≡ t
+pub expr_there : (t : ExprTree) → expr_of (expr_from t) ≡ t
 expr_there (expr_term _ _ _) = refl
 expr_there (expr_var _ _) = refl
 expr_there (expr_bool _ _) = refl
@@ -46,7 +46,7 @@ expr_there (expr_int _ _ _) = refl
 expr_there (expr_prim _ _) = refl
 expr_there (expr_let _ _ _) = refl
 
-expr_moved : (t : ExprTree) → expr_without_pos (expr_from t) ≡ expr_from (expr_tree_without_pos t)
+pub expr_moved : (t : ExprTree) → expr_without_pos (expr_from t) ≡ expr_from (expr_tree_without_pos t)
 expr_moved (expr_term _ _ _) = refl
 expr_moved (expr_var _ _) = refl
 expr_moved (expr_bool _ _) = refl
@@ -54,7 +54,7 @@ expr_moved (expr_int _ _ _) = refl
 expr_moved (expr_prim _ _) = refl
 expr_moved (expr_let _ _ _) = refl
 
-expr_back : (e : Expr) → expr_from (expr_tree_without_pos (expr_of e)) ≡ expr_without_pos e
+pub expr_back : (e : Expr) → expr_from (expr_tree_without_pos (expr_of e)) ≡ expr_without_pos e
 expr_back (expr.Term _ _ _) = refl
 expr_back (expr.Var _ _) = refl
 expr_back (expr.ConstBool _ _) = refl

@@ -263,7 +263,7 @@ decl_again d ts w l =
 
 -- ---- whole patterns
 
-pattern_there : (t : PatternTree) → pattern_of (pattern_from t) ≡ t
+pub pattern_there : (t : PatternTree) → pattern_of (pattern_from t) ≡ t
 pattern_there (pattern_var _ _) = refl
 pattern_there (pattern_bind _ _ _) = refl
 pattern_there (pattern_bool _ _) = refl
@@ -274,7 +274,7 @@ pattern_there (pattern_wildcard _) = refl
 pattern_there (pattern_and _ _) = refl
 pattern_there (pattern_macro_arg _ _) = refl
 
-pattern_moved : (t : PatternTree) → pattern_without_pos (pattern_from t) ≡ pattern_from (pattern_tree_without_pos t)
+pub pattern_moved : (t : PatternTree) → pattern_without_pos (pattern_from t) ≡ pattern_from (pattern_tree_without_pos t)
 pattern_moved (pattern_var _ _) = refl
 pattern_moved (pattern_bind _ _ _) = refl
 pattern_moved (pattern_bool _ _) = refl
@@ -285,7 +285,7 @@ pattern_moved (pattern_wildcard _) = refl
 pattern_moved (pattern_and _ _) = refl
 pattern_moved (pattern_macro_arg _ _) = refl
 
-pattern_back : (p : Pattern) → pattern_from (pattern_tree_without_pos (pattern_of p)) ≡ pattern_without_pos p
+pub pattern_back : (p : Pattern) → pattern_from (pattern_tree_without_pos (pattern_of p)) ≡ pattern_without_pos p
 pattern_back (pattern.Var _ _) = refl
 pattern_back (pattern.BindPattern _ _ _) = refl
 pattern_back (pattern.ConstBool _ _) = refl

@@ -3,7 +3,7 @@ use Rattle.std.proofs.Common.{◌≡◌, ℕ, suc, ◌+◌, ◌-◌, ◌<◌, Li
 use Rattle.std.proofs.Common.{◌∙◌, length-append, append_assoc, add-one, arith}
 use Rattle.std.specs.Str.{IsUtf8}
 use Rattle.std.proofs.lemmas.Str.{IsUtf8-drop, IsUtf8-nil, IsCharBoundary-after_ascii, IsCharBoundary-before_ascii}
-use Rattle.isle_syntax.specs.Inside.Tokens.Ends.{IsEnd}
+use Rattle.isle_syntax.specs.Tokens.Ends.{IsEnd}
 use Rattle.isle_syntax.specs.Tokens.Gaps.{after_first, after_run, run_of}
 use Rattle.isle_syntax.proofs.Tokens.Runs.{run_whole}
 

@@ -21,7 +21,7 @@ lead_ascii (b ∷ bs) k e h = elim (cases_lt b 128) [ inl l ↦ l | inr l ↦ le
 second_past_ascii : (b c : ℕ) (bs : List ℕ) → 128 ≤ c → ¬ (lead_of (b ∷ c ∷ bs) ≡ Lead.Comment)
 second_past_ascii b c bs h e = grind (arith, nat_tests)
 
-comment_ascii : (ts : List ℕ) → lead_of ts ≡ Lead.Comment → get_or (after_first ts) 0 0 < 128
+pub comment_ascii : (ts : List ℕ) → lead_of ts ≡ Lead.Comment → get_or (after_first ts) 0 0 < 128
 comment_ascii [] e = omega arith
 comment_ascii (b ∷ []) e = omega arith
 comment_ascii (b ∷ c ∷ bs) e = elim (cases_lt c 128) [ inl l ↦ l | inr l ↦ absurd (second_past_ascii b c bs l e) ]
@@ -29,10 +29,10 @@ comment_ascii (b ∷ c ∷ bs) e = elim (cases_lt c 128) [ inl l ↦ l | inr l �
 closing_ascii : (b c : ℕ) → mark_of b c ≡ Mark.Closes → c < 128
 closing_ascii b c e = grind (arith, nat_tests)
 
-in_line_ascii : (b : ℕ) → in_line b ≡ false → b < 128
+pub in_line_ascii : (b : ℕ) → in_line b ≡ false → b < 128
 in_line_ascii b e = grind (arith, nat_tests)
 
-inside_ends : {text rest : List ℕ} → Inside text rest → EndsAscii text rest
+pub inside_ends : {text rest : List ℕ} → Inside text rest → EndsAscii text rest
 inside_ends (closes {b = b} {c = c} {rest = rest} e) = ends_cons b (ends_first c rest (closing_ascii b c e))
 inside_ends (nested {b = b} {c = c} e i o) = ends_cons b (ends_cons c (ends_behind (inside_ends i) (inside_ends o)))
 inside_ends (other {b = b} e i) = ends_cons b (inside_ends i)
@@ -54,7 +54,7 @@ cut_stopped p rest ascii c = record { ending = ending_run p rest c.ending; utf8 
 pub cut_run : (p : ℕ → Bool) {text : List ℕ} (rest : List ℕ) → ((b : ℕ) → p b ≡ true → b < 128) → Cut text rest → Cut text (after_run p rest)
 cut_run p rest ascii c = record { ending = ending_run p rest c.ending; utf8 = run-utf8 p rest ascii c.utf8 }
 
-cut_ends : {text middle rest : List ℕ} → Cut text middle → EndsAscii middle rest → Cut text rest
+pub cut_ends : {text middle rest : List ℕ} → Cut text middle → EndsAscii middle rest → Cut text rest
 cut_ends c e = record { ending = ending_ends c.ending e; utf8 = ends_utf8 e c.utf8 }
 
 pub cut_gap : {text ts r : List ℕ} → IsGap ts r → Cut text ts → Cut text r

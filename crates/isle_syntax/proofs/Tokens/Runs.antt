@@ -20,7 +20,7 @@ pub after_run-step : (p : ℕ → Bool) (b : ℕ) (bs : List ℕ) → p b ≡ tr
 unfolding after_run
 after_run-step p b bs e = ap (λ t. cond t (after_run p bs) (b ∷ bs)) e
 
-take_front : (u v : List ℕ) → take (length u) (u ++ v) ≡ u
+pub take_front : (u v : List ℕ) → take (length u) (u ++ v) ≡ u
 take_front [] v = refl
 take_front (t ∷ u) v = ap (λ k. t ∷ k) (take_front u v)
 

@@ -2,7 +2,7 @@
 ghost use Rattle.std.specs.Prelude.{All};
 ghost use Rattle.std.specs.Fmt.{WritesOnOk};
 ghost use Rattle.isle_ast.specs.Errors.{IsPrintableSpan, IsPrintable};
-ghost use Rattle.isle_syntax.specs.Errors.{place_text, heading, fault_text, rules_text, error_text};
+ghost use Rattle.isle_syntax.specs.Errors.{place_text, indented_lines, heading, fault_text, rules_text, error_text};
 
 use isle_ast::Text;
 use isle_ast::error::{Error, Span};
@@ -45,8 +45,19 @@ fn write_fault<W: fmt::Write>(
         (fault_text files.now span.now kind.now msg.now) f.new }
 {
     write_heading(f, files, span, kind)?;
-    let msg = msg.as_str();
-    writeln!(f, "  {msg}")
+    write_lines(f, msg.as_str())
+}
+
+// Each line of a text on a line of its own, after two spaces.
+fn write_lines<W: fmt::Write>(f: &mut Formatter<W>, text: &str) -> fmt::Result
+    ensures { WritesOnOk W.write_str_gives f.old result (indented_lines text.now) f.new }
+{
+    let mut left = text;
+    'lines: while let Some((line, others)) = left.split_once('\n') {
+        writeln!(f, "  {line}")?;
+        left = others;
+    }
+    writeln!(f, "  {left}")
 }
 
 // The heading, and the places of further rules below it.

@@ -44,7 +44,7 @@ fn found_symbol(alloc: Global, wanted: &str, text: &str) -> Result<String, Alloc
 /// A text with a line more.
 fn with_line(msg: Text, line: &str) -> Result<Text, AllocError> {
     let mut text = msg.into_string();
-    text.push_str("\n  ")?;
+    text.push_str("\n")?;
     text.push_str(line)?;
     Ok(Text::new(text))
 }

@@ -7,69 +7,32 @@ mod sites;
 
 use crate::reasons::faults::conflicts::conflict_reason;
 use crate::reasons::faults::examples::example;
-use isle_blocks::{Rule, RuleSet, TermSets, build, demands_of};
-use isle_program::compiler::{Definitions, definitions_of};
-use isle_rules::TermEnv;
-use isle_syntax::Refusal;
+use isle_blocks::{Rule, RuleSet, demands_of};
+use isle_program::faulty::Faulty;
 use isle_syntax::error::{Error, Errors};
-use isle_syntax::files::Files;
 use isle_syntax::lexer::Pos;
-use isle_types::{TermId, TypeEnv};
 use std::alloc::{AllocError, Global};
-use std::rc::Rc;
-
-/// Definitions whose rules have faults, and the rule sets of those that can match.
-#[derive(Drop)]
-struct Faulty {
-    types: TypeEnv,
-    terms: TermEnv,
-    sets: Vec<(TermId, RuleSet)>,
-}
 
 /// For each fault of a report why it is one, in words: of a rule that never matches the tests that can't both pass, of rules that
 /// overlap or are shadowed a query that two of them match. Nothing where the fault is of another kind, or that can't be told.
 pub fn fault_reasons(alloc: Global, errors: &Errors) -> Result<Vec<Option<String>>, AllocError> {
-    let faulty = faulty_of(alloc, errors)?;
+    let faulty = Faulty::of_errors(alloc, errors)?;
+    let reasons = reasons_by(alloc, &faulty, errors.errors());
+    Faulty::release(faulty);
+    reasons
+}
+
+/// The reasons of faults, by the definitions that they are of.
+fn reasons_by(
+    alloc: Global,
+    faulty: &Option<Faulty>,
+    errors: &[Error],
+) -> Result<Vec<Option<String>>, AllocError> {
     let mut reasons = Vec::new(alloc);
-    for error in errors.errors() {
-        reasons.push(fault_reason(alloc, &faulty, error)?)?;
+    for error in errors {
+        reasons.push(fault_reason(alloc, faulty, error)?)?;
     }
     Ok(reasons)
-}
-
-/// The definitions of a report's files, if their faults are of rules.
-fn faulty_of(alloc: Global, errors: &Errors) -> Result<Option<Faulty>, AllocError> {
-    if !errors.errors().iter().any(|error| is_of_rules(error)) {
-        return Ok(None);
-    }
-    match read_again(alloc, errors.files(), errors.files().clone()?) {
-        Ok(faulty) => Ok(Some(faulty)),
-        Err(Refusal::Fault(_)) => Ok(None),
-        Err(Refusal::Memory(error)) => Err(error),
-    }
-}
-
-/// Whether a fault is one of rules.
-fn is_of_rules(error: &Error) -> bool {
-    match error {
-        Error::UnreachableError { .. } | Error::OverlapError { .. } | Error::ShadowedError { .. } =>
-            true,
-        Error::ParseError { .. } | Error::TypeError { .. } | Error::SizeError { .. } => false,
-    }
-}
-
-/// The definitions of files, and the rule sets of their rules.
-fn read_again(
-    alloc: Global,
-    files: &Files,
-    named: Rc<Files>,
-) -> Result<Faulty, Refusal<Vec<Error>>> {
-    let Definitions { types, terms } = definitions_of(alloc, files, named)?;
-    let TermSets {
-        sets,
-        unreachable: _unreachable,
-    } = build(alloc, &terms)?;
-    Ok(Faulty { types, terms, sets })
 }
 
 /// Why a fault is one.

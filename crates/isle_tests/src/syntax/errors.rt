@@ -28,12 +28,12 @@ fn two_files(alloc: Global) -> Result<Rc<Files>, Fail>
     Ok(Rc::new(alloc, files)?)
 }
 
-// A type error behind the end of the second file.
+// A type error behind the end of the second file, whose message has two lines.
 fn typing(alloc: Global) -> Result<Error, AllocError>
     ensures { IfOk result (ErrorAt (λ pos. (pos.file < 2) × (pos.offset < 1000))) }
 {
     Ok(Error::TypeError {
-        msg: Text::from_str(alloc, "unknown type")?,
+        msg: Text::from_str(alloc, "unknown type\nmet in a rule")?,
         span: Span::new_single(Pos::new(1, 100)),
     })
 }
@@ -59,6 +59,7 @@ pub fn report(alloc: Global) -> Result<String, Fail> {
 
 pub const REPORT: &str = "b.isle:2:96: type error
   unknown type
+  met in a rule
 a.isle:1:1: too large
   s
 ";

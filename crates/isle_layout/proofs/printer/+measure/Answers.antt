@@ -37,7 +37,7 @@ measure_list-loop-item-preserved t c =
     record {
       counted = (
         so_far.0 + one_line_length (sexpr_of c.item-item.result),
-        c.sum_within-length.ensures _ _ so_far.1 c.in_ok-measure.ensures.length,
+        c.sum_within-length.ensures.sum _ _ so_far.1 c.in_ok-measure.ensures.length,
         length_more c.args.items.now c.loop-item.item-index c.item-item.result _ _ c.loop-item-test.true c.item-item.is so_far.2,
       );
       marked = fits_more c.args.width c.args.items.now c.loop-item.item-index c.item-item.result _ _ _ c.loop-item-test.true c.item-item.is
@@ -51,7 +51,7 @@ measure-returns-in-Atom-clause-length t c =
     let same : one_line_length (innermost sexpr) ≡ char_count c.in-Atom.text =
     ap one_line_length (sym c.innermost.ensures ∙ ap sexpr_of c.in-Atom.is) in
     let text = c.text_length-text.ensures ∙ ap (λ bytes. within width (char_count bytes)) c.as_str.ensures ∙ ap (within width) (sym same) in
-    c.sum_within.ensures _ _ c.names_length-names.ensures text ∙ ap (within width) (chain_length sexpr)
+    c.sum_within.ensures.sum _ _ c.names_length-names.ensures text ∙ ap (within width) (chain_length sexpr)
 
 pub measure-returns-in-Atom-clause-fits : goal.measure-returns-in-Atom-clause-fits
 measure-returns-in-Atom-clause-fits t c =
@@ -67,7 +67,7 @@ measure-returns-in_ok-list-in-List-clause-length t c =
     let sexpr = sexpr_of c.args.sexpr.now in
     let same = sym c.innermost.ensures ∙ ap sexpr_of c.in-List.is ∙ ap sexpr_list (sym c.as_slice.ensures) in
     let list = c.in_ok-list-in-List.ensures.length ∙ ap (λ s. within width (one_line_length s)) (sym same) in
-    c.sum_within-in-List.ensures _ _ c.names_length-names.ensures list ∙ ap (within width) (chain_length sexpr)
+    c.sum_within-in-List.ensures.sum _ _ c.names_length-names.ensures list ∙ ap (within width) (chain_length sexpr)
 
 pub measure-returns-in_ok-list-in-List-clause-fits :
     goal.measure-returns-in_ok-list-in-List-clause-fits

@@ -1,6 +1,6 @@
 use Rattle.std.proofs.Common.{sym, subst, ◌∙◌, ap}
 use Rattle.std.specs.Str.{IsUtf8}
-use Rattle.isle_syntax.specs.Inside.Tokens.Ends.{IsEnd}
+use Rattle.isle_syntax.specs.Tokens.Ends.{IsEnd}
 use Rattle.isle_syntax.specs.Tokens.Gaps.{after_first}
 use Rattle.isle_syntax.proofs.Tokens.Cuts.{after_first-utf8, ending_self, ending_first, ending_is_end}
 use Rattle.isle_syntax.proofs.gap.after_char.Goals as goal

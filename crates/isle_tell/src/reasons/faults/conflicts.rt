@@ -1,9 +1,9 @@
 //! Why no values meet what a rule demands.
 
-use crate::reasons::faults::Faulty;
 use crate::reasons::faults::classes::{classes_of, root_of};
 use crate::reasons::faults::sites::{site_words, test_words};
 use isle_blocks::{Binding, BindingId, Constraint, Demands, TupleIndex};
+use isle_program::faulty::Faulty;
 use isle_types::{DisjointSets, SortedMap};
 use std::alloc::{AllocError, Global};
 

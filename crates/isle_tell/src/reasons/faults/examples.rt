@@ -1,9 +1,9 @@
 //! A query that two rules match.
 
-use crate::reasons::faults::Faulty;
 use crate::reasons::faults::samples::sample_variants;
 use crate::reasons::faults::sites::{const_words, int_words, term_name, type_name, variant_name};
 use isle_blocks::{Binding, BindingId, Constraint, Rule, RuleSet, TupleIndex};
+use isle_program::faulty::Faulty;
 use isle_types::{BuiltinType, Type, TypeId, VariantId};
 use std::alloc::{AllocError, Global};
 

@@ -1,8 +1,8 @@
 //! Sites and tests in words.
 
-use crate::reasons::faults::Faulty;
 use crate::reasons::words::listed;
 use isle_blocks::{Binding, BindingId, Constraint, TupleIndex};
+use isle_program::faulty::Faulty;
 use isle_types::{BuiltinType, Sym, TermId, Type, TypeId, VariantId};
 use std::alloc::{AllocError, Global};
 

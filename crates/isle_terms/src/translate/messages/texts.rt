@@ -302,7 +302,7 @@ fn ill_converter(
     };
     let named = converter(context, context.tyenv.sym_name(term.name), inner, outer)?;
     let why = ill_fit(term, inner, outer, role);
-    format!(in context.alloc; "\n  {named}, {why}")
+    format!(in context.alloc; "\n{named}, {why}")
 }
 
 /// Why a converter of two types doesn't fit.
@@ -383,7 +383,7 @@ pub fn ill_root(context: &Context<'_>, root: &Pattern) -> Result<String, AllocEr
 pub fn met(context: &Context<'_>, msg: Text) -> Result<Text, AllocError> {
     let place = context.tyenv.at_place(context.rule)?;
     let mut text = msg.into_string();
-    text.push_str("\n  met in a rule")?;
+    text.push_str("\nmet in a rule")?;
     if let Pattern::Term { sym, .. } = context.root {
         text.push_str(" of ")?;
         text.push_str(sym.0.as_str())?;

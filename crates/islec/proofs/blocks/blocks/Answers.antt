@@ -32,8 +32,8 @@ returns-in-Ok-clause-drawn g c =
     c.deref.ensures ∙ c.in_ok-files.ensures.ok ∙ c.in_ok-from_names_and_contents.ensures in
     draws_by c.deref.result.now (map source_file c.args.texts.items) same c.in-Ok.program
     (subst (λ (l : List SourceFile). IsProgramOf l c.in-Ok.program) copy c.in-Ok.ensures.compiled) (subst AreAccepted copy c.in-Ok.ensures.accepted)
-    (map string_bytes c.args.names.now) c.args.dot (g.W.Write.contents c.args.writer.now) (g.W.Write.contents c.draw.new.writer)
-    c.draw.result c.draw.ensures.drawn
+    (map string_bytes c.args.names.now) c.args.dot (g.W.Write.contents c.args.writer.now) (g.W.Write.contents c.draw-ended.new.writer)
+    c.draw-ended.result c.draw-ended.ensures.drawn
 
 pub returns-in-Ok-clause-unknown : goal.returns-in-Ok-clause-unknown
 returns-in-Ok-clause-unknown g c =
@@ -42,8 +42,8 @@ returns-in-Ok-clause-unknown g c =
     c.deref.ensures ∙ c.in_ok-files.ensures.ok ∙ c.in_ok-from_names_and_contents.ensures in
     unknown_by c.deref.result.now (map source_file c.args.texts.items) same c.in-Ok.program
     (subst (λ (l : List SourceFile). IsProgramOf l c.in-Ok.program) copy c.in-Ok.ensures.compiled) (subst AreAccepted copy c.in-Ok.ensures.accepted)
-    (map string_bytes c.args.names.now) c.args.dot (g.W.Write.contents c.args.writer.now) (g.W.Write.contents c.draw.new.writer)
-    c.draw.result c.draw.ensures.unknown
+    (map string_bytes c.args.names.now) c.args.dot (g.W.Write.contents c.args.writer.now) (g.W.Write.contents c.draw-ended.new.writer)
+    c.draw-ended.result c.draw-ended.ensures.unknown
 
 pub returns-in-Ok-clause-cut : goal.returns-in-Ok-clause-cut
 returns-in-Ok-clause-cut g c =
@@ -52,11 +52,11 @@ returns-in-Ok-clause-cut g c =
     c.deref.ensures ∙ c.in_ok-files.ensures.ok ∙ c.in_ok-from_names_and_contents.ensures in
     draw_cut c.deref.result.now (map source_file c.args.texts.items) same c.in-Ok.program
     (subst (λ (l : List SourceFile). IsProgramOf l c.in-Ok.program) copy c.in-Ok.ensures.compiled) (subst AreAccepted copy c.in-Ok.ensures.accepted)
-    (map string_bytes c.args.names.now) c.args.dot (g.W.Write.contents c.args.writer.now) (g.W.Write.contents c.draw.new.writer)
-    c.draw.result c.draw.ensures.cut
+    (map string_bytes c.args.names.now) c.args.dot (g.W.Write.contents c.args.writer.now) (g.W.Write.contents c.draw-ended.new.writer)
+    c.draw-ended.result c.draw-ended.ensures.cut
 
 pub returns-in-Ok-clause-refused : goal.returns-in-Ok-clause-refused
-returns-in-Ok-clause-refused g c = drawn_not_refused _ c.draw.result c.draw.ensures.other
+returns-in-Ok-clause-refused g c = drawn_not_refused _ c.draw-ended.result c.draw-ended.ensures.other
 
 pub returns-in-Ok-clause-other : goal.returns-in-Ok-clause-other
-returns-in-Ok-clause-other g c = drawn_ends c.draw.result c.draw.ensures.other
+returns-in-Ok-clause-other g c = drawn_ends c.draw-ended.result c.draw-ended.ensures.other

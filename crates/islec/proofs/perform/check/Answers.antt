@@ -9,10 +9,11 @@ well_is_other : AllWell ≡ TextsRefused → ⊥
 well_is_other e = cc
 
 pub returns-in-Ok-clause-refused : goal.returns-in-Ok-clause-refused
-returns-in-Ok-clause-refused g c = IfOk-weaker c.tell.result _ _ (λ status well. λ e. absurd (well_is_other (sym well ∙ e))) c.tell.ensures.status
+returns-in-Ok-clause-refused g c =
+    IfOk-weaker c.tell-ended.result _ _ (λ status well. λ e. absurd (well_is_other (sym well ∙ e))) c.tell-ended.ensures.status
 
 pub returns-in-Ok-clause-other : goal.returns-in-Ok-clause-other
-returns-in-Ok-clause-other g c = IfOk-weaker c.tell.result _ _ (λ status well. inl well) c.tell.ensures.status
+returns-in-Ok-clause-other g c = IfOk-weaker c.tell-ended.result _ _ (λ status well. inl well) c.tell-ended.ensures.status
 
 pub returns-in-Err-Faults-clause-refused : goal.returns-in-Err-Faults-clause-refused
 returns-in-Err-Faults-clause-refused g c =
@@ -38,7 +39,7 @@ returns-in-Ok-clause-accepted g c =
     c.in_ok-clone.ensures.cases ∙ c.in_ok-files.ensures.ok ∙ c.in_ok-from_names_and_contents.ensures in
     accepts_by c.in_ok-clone.field-0.value (map source_file c.args.texts.items) same c.in-Ok.program c.in-Ok.ensures.compiled
     c.in-Ok.ensures.accepted c.args.telling
-    (g.W.Write.contents c.args.writer.now) (g.W.Write.contents c.tell.new.writer) c.tell.result c.tell.ensures.written
+    (g.W.Write.contents c.args.writer.now) (g.W.Write.contents c.tell-ended.new.writer) c.tell-ended.result c.tell-ended.ensures.written
 
 pub returns-in-Ok-clause-cut : goal.returns-in-Ok-clause-cut
 returns-in-Ok-clause-cut g c =
@@ -46,4 +47,4 @@ returns-in-Ok-clause-cut g c =
     c.in_ok-clone.ensures.cases ∙ c.in_ok-files.ensures.ok ∙ c.in_ok-from_names_and_contents.ensures in
     tells_cut c.in_ok-clone.field-0.value (map source_file c.args.texts.items) same c.in-Ok.program c.in-Ok.ensures.compiled
     c.in-Ok.ensures.accepted c.args.telling
-    (g.W.Write.contents c.args.writer.now) (g.W.Write.contents c.tell.new.writer) c.tell.result c.tell.ensures.cut
+    (g.W.Write.contents c.args.writer.now) (g.W.Write.contents c.tell-ended.new.writer) c.tell-ended.result c.tell-ended.ensures.cut

@@ -12,8 +12,8 @@ returns-in-Ok-clause-all_well g c =
     c.deref.ensures ∙ c.in_ok-files.ensures.ok ∙ c.in_ok-from_names_and_contents.ensures in
     let is = subst (λ l. IsProgramOf l c.in-Ok.program) (c.in_ok-clone.ensures.cases ∙ sym c.deref.ensures) c.in-Ok.ensures.compiled in
     answers_by _ _ same c.in-Ok.program is (world_file c.args.world) c.args.manner (g.R.Read.remaining c.args.reader.now)
-    (g.R.Read.remaining c.run_program.new.reader) (g.W.Write.contents c.args.writer.now)
-    (g.W.Write.contents c.run_program.new.writer) false AllWell c.run_program.result c.run_program.ensures.all_well
+    (g.R.Read.remaining c.run_program-ended.new.reader) (g.W.Write.contents c.args.writer.now)
+    (g.W.Write.contents c.run_program-ended.new.writer) false AllWell c.run_program-ended.result c.run_program-ended.ensures.all_well
 
 pub returns-in-Ok-clause-some_refused : goal.returns-in-Ok-clause-some_refused
 returns-in-Ok-clause-some_refused g c =
@@ -21,8 +21,8 @@ returns-in-Ok-clause-some_refused g c =
     c.deref.ensures ∙ c.in_ok-files.ensures.ok ∙ c.in_ok-from_names_and_contents.ensures in
     let is = subst (λ l. IsProgramOf l c.in-Ok.program) (c.in_ok-clone.ensures.cases ∙ sym c.deref.ensures) c.in-Ok.ensures.compiled in
     answers_by _ _ same c.in-Ok.program is (world_file c.args.world) c.args.manner (g.R.Read.remaining c.args.reader.now)
-    (g.R.Read.remaining c.run_program.new.reader) (g.W.Write.contents c.args.writer.now)
-    (g.W.Write.contents c.run_program.new.writer) true SomeRefused c.run_program.result c.run_program.ensures.some_refused
+    (g.R.Read.remaining c.run_program-ended.new.reader) (g.W.Write.contents c.args.writer.now)
+    (g.W.Write.contents c.run_program-ended.new.writer) true SomeRefused c.run_program-ended.result c.run_program-ended.ensures.some_refused
 
 pub returns-in-Ok-clause-refused : goal.returns-in-Ok-clause-refused
 returns-in-Ok-clause-refused g c =
@@ -30,8 +30,8 @@ returns-in-Ok-clause-refused g c =
     c.deref.ensures ∙ c.in_ok-files.ensures.ok ∙ c.in_ok-from_names_and_contents.ensures in
     let is = subst (λ l. IsProgramOf l c.in-Ok.program) (c.in_ok-clone.ensures.cases ∙ sym c.deref.ensures) c.in-Ok.ensures.compiled in
     tells_by _ _ same c.in-Ok.program is (world_file c.args.world) c.args.manner (g.R.Read.remaining c.args.reader.now)
-    (g.R.Read.remaining c.run_program.new.reader) (g.W.Write.contents c.args.writer.now)
-    (g.W.Write.contents c.run_program.new.writer) c.run_program.result c.run_program.ensures.refused
+    (g.R.Read.remaining c.run_program-ended.new.reader) (g.W.Write.contents c.args.writer.now)
+    (g.W.Write.contents c.run_program-ended.new.writer) c.run_program-ended.result c.run_program-ended.ensures.refused
 
 pub returns-in-Ok-clause-cut : goal.returns-in-Ok-clause-cut
 returns-in-Ok-clause-cut g c =
@@ -39,8 +39,8 @@ returns-in-Ok-clause-cut g c =
     c.deref.ensures ∙ c.in_ok-files.ensures.ok ∙ c.in_ok-from_names_and_contents.ensures in
     let is = subst (λ l. IsProgramOf l c.in-Ok.program) (c.in_ok-clone.ensures.cases ∙ sym c.deref.ensures) c.in-Ok.ensures.compiled in
     cuts_by _ _ same c.in-Ok.program is (world_file c.args.world) c.args.manner (g.R.Read.remaining c.args.reader.now)
-    (g.R.Read.remaining c.run_program.new.reader) (g.W.Write.contents c.args.writer.now)
-    (g.W.Write.contents c.run_program.new.writer) c.run_program.result c.run_program.ensures.cut
+    (g.R.Read.remaining c.run_program-ended.new.reader) (g.W.Write.contents c.args.writer.now)
+    (g.W.Write.contents c.run_program-ended.new.writer) c.run_program-ended.result c.run_program-ended.ensures.cut
 
 pub returns-in-Ok-clause-memory : goal.returns-in-Ok-clause-memory
 returns-in-Ok-clause-memory g c =
@@ -48,8 +48,8 @@ returns-in-Ok-clause-memory g c =
     c.deref.ensures ∙ c.in_ok-files.ensures.ok ∙ c.in_ok-from_names_and_contents.ensures in
     let is = subst (λ l. IsProgramOf l c.in-Ok.program) (c.in_ok-clone.ensures.cases ∙ sym c.deref.ensures) c.in-Ok.ensures.compiled in
     stops_by _ _ same c.in-Ok.program is (world_file c.args.world) c.args.manner (g.R.Read.remaining c.args.reader.now)
-    (g.R.Read.remaining c.run_program.new.reader) (g.W.Write.contents c.args.writer.now)
-    (g.W.Write.contents c.run_program.new.writer) c.run_program.result c.run_program.ensures.memory
+    (g.R.Read.remaining c.run_program-ended.new.reader) (g.W.Write.contents c.args.writer.now)
+    (g.W.Write.contents c.run_program-ended.new.writer) c.run_program-ended.result c.run_program-ended.ensures.memory
 
 pub returns-in-Err-Faults-clause-refused : goal.returns-in-Err-Faults-clause-refused
 returns-in-Err-Faults-clause-refused g c =
@@ -76,5 +76,5 @@ returns-in-Err-Faults-clause-memory g c =
     (g.R.Read.remaining c.args.reader.now) (g.W.Write.contents c.args.writer.now)
     (g.W.Write.contents c.refuse.new.writer) c.refuse.result refl c.refuse.ensures.memory
 
-pub run_program-requires : goal.run_program-requires
-run_program-requires g c = record { files = _; is = c.in-Ok.ensures.compiled }
+pub run_program-ended-requires : goal.run_program-ended-requires
+run_program-ended-requires g c = record { files = _; is = c.in-Ok.ensures.compiled }

@@ -11,7 +11,8 @@ returns-in-Ok g c =
     let new = g.W.Write.contents c.perform.new.writer in
     record {
       ends =
-          ends_done _ begun input left old new c.perform.result (g.I.Read.remaining c.begin.new.input) c.in-Ok.ensures.begun c.perform.ensures.ends;
+          ends_done (g.S.Sources.gives c.args.sources.now) _ begun input left old new c.perform.result
+          (g.I.Read.remaining c.begin.new.input) c.in-Ok.ensures.begun c.perform.ensures.ends;
     }
 
 pub returns-in-Err : goal.returns-in-Err

@@ -7,5 +7,6 @@ use Rattle.islec.proofs.program.read_texts.Given as goal
 abbrev pub invariant-loop-name : goal.invariant-loop-name
 invariant-loop-name g l = record {
   named : map (λ text. text.0) l.texts.items ≡ l.yielded;
-  inputs : ReadsFiles l.reads_input (map source_file l.texts.items) (g.I.Read.remaining l.initial.input) (g.I.Read.remaining l.input);
+  inputs : ReadsFiles (g.S.Sources.gives l.sources) l.reads_input (map source_file l.texts.items)
+      (g.I.Read.remaining l.initial.input) (g.I.Read.remaining l.input);
 }

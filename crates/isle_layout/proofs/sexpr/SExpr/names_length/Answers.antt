@@ -8,9 +8,9 @@ pub loop-at-preserved : goal.loop-at-preserved
 loop-at-preserved c =
     let n = c.loop-at.invariant.0 in
     let name = c.text_length.ensures ∙ ap (λ text. within c.args.width (char_count text)) c.as_str.ensures in
-    let before = c.sum_within-length.ensures n _ c.loop-at.invariant.1 name in (
+    let before = c.sum_within-length.ensures.sum n _ c.loop-at.invariant.1 name in (
       (n + char_count c.in-Binding.name) + 3,
-      c.sum_within-length-in-Binding.ensures _ 3 before c.at_most.ensures,
+      c.sum_within-length-in-Binding.ensures.sum _ 3 before c.at_most.ensures,
       name_counted c.loop-at.at.now c.get-at.result.now n _ _ c.in-Binding.is c.get-at.ensures ∙ c.loop-at.invariant.2,
     )
 

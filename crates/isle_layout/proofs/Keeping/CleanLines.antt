@@ -1,0 +1,98 @@
+-- What is laid out has no white space at the ends of lines and no two blank lines in a row, but in comments that have it.
+use Rattle.std.proofs.Common.{◌≡◌, ℕ, zero, suc, List, [], ◌∷◌, ◌++◌, length, Option, Some, None, Bool, true, false, refl, sym, ap, ◌∙◌, append_assoc}
+use Rattle.isle_layout.specs.declared.pieces.Kind.{Kind}
+use Rattle.isle_layout.specs.declared.pieces.Break.{Break}
+use Rattle.isle_layout.specs.declared.layout.Gap.{Gap}
+use Rattle.isle_layout.specs.declared.layout.Spot.{Spot}
+use Rattle.isle_layout.specs.Keeping.Pieces.{Fragment, pieces_of}
+use Rattle.isle_layout.specs.Keeping.LaidOut.{margin, gap_text, gap_at, levels_at, next_spot, written, start, laid_out, ending}
+use Rattle.isle_layout.specs.Keeping.LineEnds.{is_block, ends_clean, HaveCleanBlocks, is_spaced, HaveSpacedBlocks}
+use Rattle.isle_layout.proofs.Keeping.Wholes.{IsWhole}
+use Rattle.isle_layout.proofs.Keeping.Settling.{AreWhole, are_whole}
+use Rattle.isle_layout.proofs.Keeping.Spacing.{other_behind, spaced_behind, solid_other}
+use Rattle.isle_layout.proofs.Keeping.Cleaning.{solid_behind, clean_behind, not_newline}
+
+-- what begins with no white space is as clean behind some as behind none
+abbrev IsSolid : List ℕ → Type 0
+IsSolid text = (spaced : Bool) → ends_clean spaced text ≡ ends_clean false text
+
+whole_solid : {kind : Kind} {text : List ℕ} (rest : List ℕ) → IsWhole kind text → IsSolid (text ++ rest)
+whole_solid rest w spaced =
+    ap (λ t. ends_clean spaced (t ++ rest)) w.is ∙ solid_behind spaced w.first (w.others ++ rest) w.solid
+    ∙ sym (solid_behind false w.first (w.others ++ rest) w.solid) ∙ ap (λ t. ends_clean false (t ++ rest)) (sym w.is)
+
+margin_clean : (levels : ℕ) (spaced : Bool) (text : List ℕ) → IsSolid text → ends_clean spaced (margin levels ++ text) ≡ ends_clean false text
+margin_clean zero spaced text f = f spaced
+margin_clean (suc n) spaced text f = not_newline spaced false (ends_clean true (margin n ++ text)) refl ∙ margin_clean n true text f
+
+gap_clean : (gap : Gap) (levels : ℕ) (text : List ℕ) → IsSolid text → ends_clean false (gap_text gap levels ++ text) ≡ ends_clean false text
+gap_clean Gap.Nothing levels text f = refl
+gap_clean Gap.Space levels text f = f true
+gap_clean Gap.Line levels text f = margin_clean levels false text f
+gap_clean Gap.Blank levels text f = margin_clean levels false text f
+
+piece_clean : {kind : Kind} {text : List ℕ} (t : Bool) → is_block kind ≡ t → IsWhole kind text → (is_block kind ≡ true → ends_clean false text ≡ true)
+    → ends_clean false text ≡ true
+piece_clean true e w h = h e
+piece_clean false e w h = w.clean e
+
+ending_clean : (prev : Option Kind) → ends_clean false (ending prev) ≡ true
+ending_clean None = refl
+ending_clean (Some k) = refl
+
+written_clean : (width : ℕ) (spot : Spot) (ps : List Fragment) → AreWhole ps → HaveCleanBlocks ps → ends_clean false (written width spot ps) ≡ true
+written_clean width spot [] w h = ending_clean spot.prev
+written_clean width spot (p ∷ ps) w h =
+    let next = next_spot width spot p ps in
+    let rest = written width next ps in
+    let gap = gap_at spot p.kind p.before in
+    ap (ends_clean false) (append_assoc (gap_text gap (levels_at spot p.kind)) p.text rest)
+    ∙ gap_clean gap (levels_at spot p.kind) (p.text ++ rest) (whole_solid rest w.0)
+    ∙ clean_behind false p.text rest (piece_clean (is_block p.kind) refl w.0 h.0) ∙ written_clean width next ps w.1 h.1
+
+pub laid_out_clean : (width : ℕ) (text : List ℕ) → HaveCleanBlocks (pieces_of text) → ends_clean false (laid_out width text) ≡ true
+laid_out_clean width text h = written_clean width start (pieces_of text) (are_whole (length text) Break.Same text) h
+
+-- ---- newlines in a row
+
+-- what begins with no newline is as well spaced behind some as behind none
+abbrev IsOther : List ℕ → Type 0
+IsOther text = (newlines : ℕ) → is_spaced newlines text ≡ is_spaced 0 text
+
+whole_other : {kind : Kind} {text : List ℕ} (rest : List ℕ) → IsWhole kind text → IsOther (text ++ rest)
+whole_other rest w newlines =
+    let other = solid_other w.first w.solid in
+    ap (λ t. is_spaced newlines (t ++ rest)) w.is ∙ other_behind newlines w.first (w.others ++ rest) other
+    ∙ sym (other_behind 0 w.first (w.others ++ rest) other) ∙ ap (λ t. is_spaced 0 (t ++ rest)) (sym w.is)
+
+margin_spaced : (levels newlines : ℕ) (text : List ℕ) → IsOther text → is_spaced newlines (margin levels ++ text) ≡ is_spaced 0 text
+margin_spaced zero newlines text f = f newlines
+margin_spaced (suc n) newlines text f = margin_spaced n 0 text f
+
+gap_spaced : (gap : Gap) (levels : ℕ) (text : List ℕ) → IsOther text → is_spaced 0 (gap_text gap levels ++ text) ≡ is_spaced 0 text
+gap_spaced Gap.Nothing levels text f = refl
+gap_spaced Gap.Space levels text f = refl
+gap_spaced Gap.Line levels text f = margin_spaced levels 1 text f
+gap_spaced Gap.Blank levels text f = margin_spaced levels 2 text f
+
+piece_spaced : {kind : Kind} {text : List ℕ} (t : Bool) → is_block kind ≡ t → IsWhole kind text
+    → (is_block kind ≡ true → is_spaced 0 (text ++ 10 ∷ []) ≡ true) → is_spaced 0 (text ++ 10 ∷ []) ≡ true
+piece_spaced true e w h = h e
+piece_spaced false e w h = w.spaced e
+
+ending_spaced : (prev : Option Kind) → is_spaced 0 (ending prev) ≡ true
+ending_spaced None = refl
+ending_spaced (Some k) = refl
+
+written_spaced : (width : ℕ) (spot : Spot) (ps : List Fragment) → AreWhole ps → HaveSpacedBlocks ps → is_spaced 0 (written width spot ps) ≡ true
+written_spaced width spot [] w h = ending_spaced spot.prev
+written_spaced width spot (p ∷ ps) w h =
+    let next = next_spot width spot p ps in
+    let rest = written width next ps in
+    let gap = gap_at spot p.kind p.before in
+    ap (is_spaced 0) (append_assoc (gap_text gap (levels_at spot p.kind)) p.text rest)
+    ∙ gap_spaced gap (levels_at spot p.kind) (p.text ++ rest) (whole_other rest w.0)
+    ∙ spaced_behind 0 p.text rest (piece_spaced (is_block p.kind) refl w.0 h.0) ∙ written_spaced width next ps w.1 h.1
+
+pub laid_out_spaced : (width : ℕ) (text : List ℕ) → HaveSpacedBlocks (pieces_of text) → is_spaced 0 (laid_out width text) ≡ true
+laid_out_spaced width text h = written_spaced width start (pieces_of text) (are_whole (length text) Break.Same text) h
