@@ -46,6 +46,8 @@ commands:
 	python3 tools/replay.py $(PROGRAM) steps tests/vectors/trees.json
 	python3 tools/replay.py $(PROGRAM) plain-steps tests/vectors/trees.json
 	python3 tools/manual.py $(PROGRAM)
+	python3 tools/kept.py $(PROGRAM) examples/*.isle
+	python3 tools/fuzz.py $(PROGRAM) 200
 	$(MAKE) refusals
 
 # Each request for memory is refused in turn.
@@ -53,7 +55,7 @@ refusals:
 	python3 tools/refusals.py $(PROGRAM)
 	python3 tools/refusals.py $(CALLERS) tests/refusals/calls.json
 
-# 20,000 texts that are made of those of tests and examples by changes at random; not of the gate.
+# 20,000 texts that are made of those of tests and examples by changes at random; 200 of the gate.
 fuzz:
 	python3 tools/fuzz.py $(PROGRAM) $(COUNT)
 

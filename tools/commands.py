@@ -95,23 +95,61 @@ def input_of(case):
 
 def limits_of(case):
     """What the program's process sets before it starts: its native stack, and how many bytes a file may have."""
-    room = case.get("stdout_room")
+    room, most = case.get("stdout_room"), case.get("killed_at")
 
     def set_limits():
         resource.setrlimit(resource.RLIMIT_STACK, (STACK, resource.getrlimit(resource.RLIMIT_STACK)[1]))
         if room is not None:
             signal.signal(signal.SIGXFSZ, signal.SIG_IGN)
             resource.setrlimit(resource.RLIMIT_FSIZE, (room, room))
+        if most is not None:
+            resource.setrlimit(resource.RLIMIT_CORE, (0, 0))
+            resource.setrlimit(resource.RLIMIT_FSIZE, (most, most))
 
     return set_limits
 
 
+def lay_down(folder, case):
+    """Writes the files of a case, with their modes, and its links."""
+    for name, text in case["files"].items():
+        with open(os.path.join(folder, name), "wb") as file:
+            file.write(bytes_of(text_of(text)))
+    for name, mode in case.get("modes", {}).items():
+        os.chmod(os.path.join(folder, name), int(mode, 8))
+    for name, target in case.get("links", {}).items():
+        os.symlink(target, os.path.join(folder, name))
+
+
+def changes_in(folder, case):
+    """The lines that tell how the files in a folder aren't those that a case wants afterwards."""
+    wanted = {name: bytes_of(text_of(text)) for name, text in case.get("files_after", case["files"]).items()}
+    links = case.get("links", {})
+    found = []
+    for name in sorted({*os.listdir(folder), *wanted, *links}):
+        path = os.path.join(folder, name)
+        if name in links:
+            if not os.path.islink(path) or os.readlink(path) != links[name]:
+                found.append(f"{name} is no link to {links[name]} afterwards")
+        elif name not in wanted:
+            found.append(f"{name} stands there afterwards")
+        elif not os.path.isfile(path):
+            found.append(f"{name} doesn't stand there afterwards")
+        else:
+            with open(path, "rb") as file:
+                text = file.read()
+            if text != wanted[name]:
+                found.append(f"{name} is {text!r} afterwards, wanted {wanted[name]!r}")
+    for name, mode in case.get("modes", {}).items():
+        has = os.stat(os.path.join(folder, name)).st_mode & 0o7777
+        if has != int(mode, 8):
+            found.append(f"{name} has the mode {has:o} afterwards, wanted {mode}")
+    return found
+
+
 def run(program, case, missed):
-    """The output and the exit status of the program on a case, whose turns that are missed are told."""
+    """The output and the exit status of the program on a case. Turns that are missed and files that aren't as they are wanted are told."""
     with tempfile.TemporaryDirectory() as folder, tempfile.TemporaryFile() as output:
-        for name, text in case["files"].items():
-            with open(os.path.join(folder, name), "wb") as file:
-                file.write(bytes_of(text_of(text)))
+        lay_down(folder, case)
         with turns_of(case, output, missed) if "turns" in case else input_of(case) as given:
             done = subprocess.run(
                 [program, *map(bytes_of, case["args"])],
@@ -123,6 +161,7 @@ def run(program, case, missed):
                 timeout=SECONDS,
                 check=False,
             )
+        missed += changes_in(folder, case)
         output.seek(0)
         return output.read(), done.returncode
 

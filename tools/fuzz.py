@@ -10,7 +10,9 @@ doubled, or put in from another program. `check`, `fmt`, `run` and `run --plain`
 - no command ends by a signal, with a status outside 0 to 5, or after more than 10 seconds;
 - `run` writes what `check` writes where the files are refused;
 - both roads refuse the same queries, and where both answer one the answer and its effects are the same, if each type has a value;
-- what `fmt` prints is printed again to itself, and `check` says the same of it but for places.
+- what `fmt` prints is printed again to itself, and `check` says the same of it but for places;
+- `fmt --keep` prints a text exactly where `fmt` does; it changes nothing but white space, prints what it printed to itself, and `fmt` and `check` say
+  the same of that as of the text; `--check` names the text exactly where it isn't its print, and what `--diff` tells makes the one of the other.
 
 Prints each fault with the number of its text, and last how many texts there were and how they ended. With COUNT 1 the
 files of the text are printed. Exits with 1 where there was a fault.
@@ -265,6 +267,98 @@ def kinds_of(output):
     return [line for line in lines if not line.startswith(b"  ") or line.endswith(b".isle")]
 
 
+def without_space(text):
+    """A text without the white space between its tokens and comments, and at the line ends of comments."""
+    found, at = [], 0
+    while at < len(text):
+        begin = at
+        if text[at:at + 1] == b";":
+            at = len(text) if text.find(b"\n", at) < 0 else text.find(b"\n", at)
+            found.append(text[begin:at].rstrip(b" \t\r\f"))
+        elif text[at:at + 2] == b"(;":
+            at = behind_comment(text, at)
+            found.append(b"\n".join(line.rstrip(b" \t\r\f") for line in text[begin:at].split(b"\n")))
+        else:
+            at += 1
+            found.append(text[begin:at].strip(b" \t\r\n\f"))
+    return b"".join(found)
+
+
+def behind_comment(text, at):
+    """Where a comment between parentheses that begins there ends; or the text's end, where it isn't closed."""
+    depth = 0
+    while at < len(text):
+        mark = text[at:at + 2]
+        depth += (mark == b"(;") - (mark == b";)")
+        at += 2 if mark in (b"(;", b";)") else 1
+        if not depth:
+            return at
+    return len(text)
+
+
+def patched(text, diff):
+    """What a unified diff makes of a text."""
+    made, at = [], 0
+    old = [line + b"\n" for line in text.split(b"\n")[:-1]] + ([text.split(b"\n")[-1]] if not text.endswith(b"\n") and text else [])
+    rows = diff.split(b"\n")[2:-1]
+    for number, row in enumerate(rows):
+        bare = rows[number + 1:number + 2] == [b"\\ No newline at end of file"]
+        line = row[1:] + (b"" if bare else b"\n")
+        if row.startswith(b"@@"):
+            begin, _, count = row.split()[1][1:].partition(b",")
+            upto = int(begin) - (count != b"0")
+            made += old[at:upto]
+            at = upto
+        elif row[:1] in (b" ", b"-"):
+            if old[at] != line:
+                raise Fault(f"the diff has {line!r} for {old[at]!r}")
+            made += [line] if row[:1] == b" " else []
+            at += 1
+        elif row[:1] == b"+":
+            made.append(line)
+    return b"".join(made + old[at:])
+
+
+def look_at_kept(folder, name, text, printed):
+    """What `fmt --keep` does with a file, of which `fmt` printed so much: nothing where it refused it."""
+    words = ["fmt", "--keep", "--width", str(len(text) % 90)]
+    kept, status = folder.run(*words, name)
+    if (status == 0) != (printed is not None):
+        raise Fault(f"{name} is printed with its comments or without, not both")
+    if status:
+        return
+    if without_space(kept) != without_space(text):
+        raise Fault(f"{name} is kept as {kept!r}")
+    if folder.run(*words, "--check", name)[0] != (b"" if kept == text else name.encode() + b"\n"):
+        raise Fault(f"{name} is named, or isn't, as if it were another text")
+    if patched(text, folder.run(*words, "--diff", name)[0]) != kept:
+        raise Fault(f"the diff of {name} makes another text")
+    folder.write(name, kept)
+    if folder.run(*words, name)[0] != kept:
+        raise Fault(f"{name} is kept again in another way")
+    if folder.run("fmt", "--width", str(len(text) % 90), name)[0] != printed:
+        raise Fault(f"{name} is printed in another way once it is kept")
+
+
+def look_at_prints(folder, made, accepted):
+    """What `fmt` does with the files of a program that is accepted or not, but for standard input. They are their prints afterwards, where they
+    have any."""
+    for name, text in made.files.items():
+        if name == "-":
+            continue
+        printed, status = folder.run("fmt", "--width", str(len(text) % 90), name)
+        if status == 0 and len(printed) < ROOM:
+            look_at_kept(folder, name, text, printed)
+            folder.write(name, printed)
+            again, _ = folder.run("fmt", "--width", str(len(text) % 90), name)
+            if again != printed:
+                raise Fault(f"{name} is printed again in another way")
+        elif status != 0:
+            look_at_kept(folder, name, text, None)
+            if accepted:
+                raise Fault(f"{name} is accepted and isn't printed")
+
+
 def look(binary, made, path):
     """Runs the commands on a program, and tells how it ended; a fault where one does what it mustn't."""
     folder = Folder(binary, path)
@@ -295,15 +389,7 @@ def look(binary, made, path):
         compare_roads(replies(by_trees), replies(by_rules), b"some type has no value" not in checked.split(b"\n"))
         if any(not reply[-1].startswith(b"refused") for reply in replies(by_trees)):
             ending = "called"
-    for name in names:
-        printed, fmt_status = folder.run("fmt", "--width", str(len(made.files[name]) % 90), name)
-        if fmt_status == 0 and len(printed) < ROOM:
-            folder.write(name, printed)
-            again, _ = folder.run("fmt", "--width", str(len(made.files[name]) % 90), name)
-            if again != printed:
-                raise Fault(f"{name} is printed again in another way")
-        elif fmt_status != 0 and status == 0:
-            raise Fault(f"{name} is accepted and isn't printed")
+    look_at_prints(folder, made, status == 0)
     formatted, formatted_status = folder.run("check", "--terms", *names)
     if formatted_status != status or kinds_of(formatted) != kinds_of(checked):
         raise Fault(f"a check says {kinds_of(checked)!r}, and of what is printed {kinds_of(formatted)!r}")

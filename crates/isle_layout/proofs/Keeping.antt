@@ -1,6 +1,10 @@
 -- Lemmas on texts laid out with their comments, in reading order.
 -- Bytes without the white space at their end.
 pub mod Trimming
+-- Whether a newline is the last of some bytes.
+pub mod Endings
+-- A text without the white space directly before its newlines, and what that leaves of a comment.
+pub mod BlockLines
 -- Where a text may be cut behind a piece, and that this shortens it.
 pub mod Cutting
 -- Margins of levels.
@@ -17,7 +21,7 @@ pub mod Spacing
 pub mod Wholes
 -- What is laid out has the same pieces, and is laid out again as it is.
 pub mod Settling
--- What is laid out has no white space at the ends of lines and no two blank lines in a row.
+-- What is laid out has no white space at the ends of lines, no two blank lines in a row, and one newline at its end.
 pub mod CleanLines
 -- What is laid out has the same tokens.
 pub mod SameTokens
@@ -29,3 +33,9 @@ pub mod MovedTrees
 pub mod MovedDefs
 -- A text that has the tokens of another is read as it, but for positions.
 pub mod ReadAgain
+-- The length of a row is that of its list on one line.
+pub mod ListLengths
+-- What is written of a list that stays on one line is the list on one line.
+pub mod ListsOnOneLine
+-- The texts of some comments, and the lengths of some lists.
+pub mod KeepCases

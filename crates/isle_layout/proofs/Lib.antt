@@ -10,3 +10,7 @@ pub mod SpeltTexts
 pub mod Nestings
 -- a text laid out with its comments has the same pieces
 pub mod Keeping
+-- lemmas on unified diffs
+pub mod ChangesLemmas
+-- unified diffs of texts that are written out
+pub mod ChangesCases

@@ -8,3 +8,5 @@ pub mod RowsSeen
 pub mod TextTokens
 -- Which tokens an S-expression's text has.
 pub mod SExprTokens
+-- Lines and scripts of a unified diff as the program has them.
+pub mod Changes

@@ -22,5 +22,7 @@ pub mod ReadsBack
 pub mod Formats
 -- A text laid out with its comments.
 pub mod Keeping
+-- What changes from a text to another, as a unified diff.
+pub mod Changes
 -- What no public contract cites.
 pub mod Inside

@@ -2,14 +2,14 @@
 ghost use Rattle.std.specs.Prelude.{◌≡◌, ◌≤◌, ◌<◌, ◌+◌, ◌++◌, ◌∷◌, [], ℕ, Bool, false, true, List, IfOk, map, string_bytes};
 ghost use Rattle.isle_syntax.specs.declared.lexer.Token.{Token};
 ghost use Rattle.isle_layout.specs.Keeping.TokenValues.{HasTokens};
-ghost use Rattle.isle_layout.specs.Keeping.Pieces.{piece_of, Fragment, pieces_of};
+ghost use Rattle.isle_layout.specs.Keeping.Pieces.{text_by, trimmed_lines, piece_of, Fragment, pieces_of};
 ghost use Rattle.isle_layout.specs.Keeping.Rows.{rows_of};
 ghost use Rattle.isle_layout.specs.Keeping.LaidOut.{if_first, flat_habit, at_sign_habit, item_habit, broken_habit, habit_behind_line, habit_behind};
 ghost use Rattle.isle_layout.specs.Keeping.LaidOut.{first_gap, item_gap, gap_by, margin, gap_text, is_flat, gap_at, levels_at, text_before, spot_behind};
 ghost use Rattle.isle_layout.specs.Keeping.LaidOut.{next_spot, written, start, laid_out, texts_of};
-ghost use Rattle.isle_layout.specs.Keeping.LineEnds.{ends_clean, HaveCleanBlocks, is_spaced, HaveSpacedBlocks};
+ghost use Rattle.isle_layout.specs.Keeping.LineEnds.{ends_clean, is_spaced, HaveSpacedBlocks, IsEnded};
 
-use crate::pieces::{Break, Kind, Piece, pieces};
+use crate::pieces::{Break, Kind, Piece, pieces, trimmed};
 use crate::rows::lists_that_fit;
 use std::alloc::{AllocError, Global};
 
@@ -304,17 +304,44 @@ fn write_gap(out: &mut String, gap: Gap, levels: usize) -> Result<(), AllocError
     }
 }
 
+/// Writes a text without the white space directly before its newlines.
+fn write_lines(out: &mut String, text: &str) -> Result<(), AllocError>
+    ensures { IfOk result (λ done. string_bytes out.new ≡ string_bytes out.old ++ trimmed_lines text.now) }
+{
+    let mut left = text;
+    'lines: while let Some((line, others)) = left.split_once('\n') {
+        out.push_str(trimmed(line))?;
+        out.push('\n')?;
+        left = others;
+    }
+    out.push_str(left)
+}
+
+/// Writes a piece's text: a comment without the white space at its lines' ends.
+fn write_text(out: &mut String, kind: Kind, text: &str) -> Result<(), AllocError>
+    ensures { IfOk result (λ done. string_bytes out.new ≡ string_bytes out.old ++ text_by kind text.now) }
+{
+    match kind {
+        Kind::Line => out.push_str(trimmed(text)),
+        Kind::Block => write_lines(out, text),
+        Kind::Opening => out.push_str(text),
+        Kind::Closing => out.push_str(text),
+        Kind::AtSign => out.push_str(text),
+        Kind::Atom => out.push_str(text),
+    }
+}
+
 /// Writes a piece, behind its gap.
 fn write_piece(out: &mut String, spot: &Spot, piece: &Piece<'_>) -> Result<(), AllocError>
     ensures { IfOk result (λ done. string_bytes out.new
-        ≡ string_bytes out.old ++ (text_before spot.now piece.now.kind piece.now.before ++ piece.now.text.now)) }
+        ≡ string_bytes out.old ++ (text_before spot.now piece.now.kind piece.now.before ++ (piece_of piece.now).text)) }
 {
     write_gap(
         out,
         spot.gap(piece.kind, piece.before),
         spot.levels(piece.kind),
     )?;
-    out.push_str(piece.text)
+    write_text(out, piece.kind, piece.text)
 }
 
 /// Takes whether the next list stays on one line.
@@ -365,8 +392,9 @@ pub fn lay_out(alloc: Global, text: &str, width: usize) -> Result<String, AllocE
     ensures text { IfOk result (λ out. string_bytes out ≡ laid_out width text.now) }
     ensures same { IfOk result (λ out. texts_of (string_bytes out) ≡ texts_of text.now) }
     ensures tokens { IfOk result (λ out. (tokens : List Token) → HasTokens text.now tokens → HasTokens (string_bytes out) tokens) }
-    ensures clean { IfOk result (λ out. HaveCleanBlocks (pieces_of text.now) → ends_clean false (string_bytes out) ≡ true) }
+    ensures clean { IfOk result (λ out. ends_clean false (string_bytes out) ≡ true) }
     ensures spaced { IfOk result (λ out. HaveSpacedBlocks (pieces_of text.now) → is_spaced 0 (string_bytes out) ≡ true) }
+    ensures ends { IfOk result (λ out. IsEnded (pieces_of text.now) (string_bytes out)) }
     ensures settled { IfOk result (λ out. laid_out width (string_bytes out) ≡ string_bytes out) }
 {
     let pieces = pieces(alloc, text)?;

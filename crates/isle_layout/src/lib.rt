@@ -1,6 +1,7 @@
 //! The layout of ISLE: S-expressions, how they are printed, and which definitions can be; and texts laid out with their comments.
 #![tactic(auto)]
 
+pub mod changes;
 pub mod format;
 pub mod keep;
 pub mod laws;

@@ -1,8 +1,8 @@
-//! The pieces of a text: its tokens and its comments, as they are written.
+//! The pieces of a text: its tokens and its comments.
 ghost use Rattle.std.specs.Prelude.{◌≡◌, IfOk, map};
 ghost use Rattle.std.specs.Str.{IsUtf8};
 ghost use Rattle.isle_syntax.specs.Tokens.Ends.{IsEnd};
-ghost use Rattle.isle_layout.specs.Keeping.Pieces.{one_more, break_with, kind_at, after_piece, cut_of, before_rest, trimmed, pieces_of, piece_of};
+ghost use Rattle.isle_layout.specs.Keeping.Pieces.{one_more, break_with, kind_at, after_piece, cut_of, before_rest, text_by, trimmed, pieces_of, piece_of};
 
 use isle_syntax::gap::{
     Lead, after_char, after_comment, after_first, after_line, front, is_space, lead_of,
@@ -56,7 +56,7 @@ impl Break {
     }
 }
 
-/// A token or a comment as it is written; of a comment up to the line's end without the white space at its end.
+/// A token or a comment as it is written.
 #[derive(Clone, Copy, Debug)]
 pub struct Piece<'src> {
     pub kind: Kind,
@@ -110,7 +110,7 @@ fn trimmed_bytes(bytes: &[u8]) -> &[u8]
 }
 
 /// A text without the white space at its end.
-fn trimmed(text: &str) -> &str
+pub fn trimmed(text: &str) -> &str
     ensures { result.now ≡ trimmed text.now }
 {
     let (front, _) = text.split_at(trimmed_bytes(text.as_bytes()).len());
@@ -120,16 +120,12 @@ fn trimmed(text: &str) -> &str
 /// The piece at the front of a text, as it is written, and what follows it.
 fn cut(text: &str) -> (Kind, &str, &str)
     ensures kind { result.0 ≡ (cut_of text.now).kind }
-    ensures text { result.1.now ≡ (cut_of text.now).text }
+    ensures text { text_by result.0 result.1.now ≡ (cut_of text.now).text }
     ensures rest { result.2.now ≡ (cut_of text.now).rest }
 {
     let (kind, rest) = after_piece(text.as_bytes());
     let (written, rest) = split_at_end(text, rest);
-    if kind == Kind::Line {
-        (kind, trimmed(written), rest)
-    } else {
-        (kind, written, rest)
-    }
+    (kind, written, rest)
 }
 
 /// The pieces of a text.

@@ -1,9 +1,7 @@
 //! Which lists stay on one line.
 ghost use Rattle.std.specs.Prelude.{◌≡◌, ◌-◌, IfOk, map, length, take};
-ghost use Rattle.std.specs.Fmt.{char_count};
-ghost use Rattle.isle_layout.specs.Keeping.Pieces.{piece_of};
-ghost use Rattle.isle_layout.specs.Layout.{within};
-ghost use Rattle.isle_layout.specs.Keeping.Rows.{and_one, are_few, empty_row, row_behind, has_newline, list_length, stays, last_row, rows_with, rows_of};
+ghost use Rattle.isle_layout.specs.Keeping.Pieces.{piece_of, trimmed_lines};
+ghost use Rattle.isle_layout.specs.Keeping.Rows.{and_one, are_few, empty_row, row_behind, has_newline, block_length, list_length, stays, last_row, rows_with, rows_of};
 ghost use Rattle.isle_layout.specs.Inside.RowsSeen.{rows_seen};
 
 use crate::pieces::{Kind, Piece};
@@ -102,6 +100,17 @@ fn has_newline(text: &str) -> bool
     text.as_bytes().iter().any(|b| *b == b'\n')
 }
 
+/// How long a comment between `(;` and `;)` is on one line, or `None` where it has more than one, or is longer than the width.
+fn block_length(width: usize, text: &str) -> Option<usize>
+    ensures { result ≡ block_length width (trimmed_lines text.now) }
+{
+    if has_newline(text) {
+        None
+    } else {
+        text_length(width, text)
+    }
+}
+
 /// What is known of the pieces from one on.
 #[derive(Debug, Drop)]
 struct Found {
@@ -115,8 +124,9 @@ struct Found {
 
 impl Found {
     /// One piece more before them.
+    #[tactic(auto, using(crate::proofs::Keeping::BlockLines::newlines_same))]
     fn add(&mut self, piece: &Piece<'_>, width: usize) -> Result<(), AllocError>
-        ensures { IfOk result (λ done. rows_seen self.new ≡ rows_with width piece.now.kind piece.now.text.now (rows_seen self.old)) }
+        ensures { IfOk result (λ done. rows_seen self.new ≡ rows_with width piece.now.kind (piece_of piece.now).text (rows_seen self.old)) }
     {
         match piece.kind {
             Kind::Closing => {
@@ -129,23 +139,22 @@ impl Found {
                 let around = last_or_empty(&mut self.outer);
                 self.here = around.behind(width, list.list_length(width), list.is_broken);
             }
-            Kind::AtSign => self.add_item(piece, width, false),
-            Kind::Atom => self.add_item(piece, width, false),
-            Kind::Line => self.add_item(piece, width, true),
-            Kind::Block => self.add_item(piece, width, has_newline(piece.text)),
+            Kind::AtSign => self.add_item(width, text_length(width, piece.text), false),
+            Kind::Atom => self.add_item(width, text_length(width, piece.text), false),
+            Kind::Line => self.add_item(width, None, true),
+            Kind::Block => {
+                let length = block_length(width, piece.text);
+                self.add_item(width, length, has_newline(piece.text));
+            }
         }
         Ok(())
     }
 
-    /// One piece more in the list that is open.
-    fn add_item(&mut self, piece: &Piece<'_>, width: usize, breaks: bool)
-        ensures { rows_seen self.new ≡ record (rows_seen self.old) {
-          here = row_behind width (within width (char_count piece.now.text.now)) breaks (rows_seen self.old).here;
-        } }
+    /// One item more in the list that is open, of this length.
+    fn add_item(&mut self, width: usize, item: Option<usize>, breaks: bool)
+        ensures { rows_seen self.new ≡ record (rows_seen self.old) { here = row_behind width item breaks (rows_seen self.old).here } }
     {
-        self.here = self
-            .here
-            .behind(width, text_length(width, piece.text), breaks);
+        self.here = self.here.behind(width, item, breaks);
     }
 }
 

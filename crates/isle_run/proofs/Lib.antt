@@ -4,3 +4,5 @@ pub mod Spelling
 pub mod Chains
 -- Calls by trees, and by rules.
 pub mod Blocks
+-- Names in compiled programs are spelt as names.
+pub mod Naming

@@ -5,5 +5,7 @@ pub mod Faults
 pub mod Whole
 -- Formatted files.
 pub mod Formatting
+-- Files that are laid out with their comments.
+pub mod Keeping
 -- Texts whose rules stand in another order.
 pub mod Ordered

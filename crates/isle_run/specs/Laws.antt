@@ -8,6 +8,8 @@ pub mod Order
 pub mod Spelling
 -- Formatted files.
 pub mod Formatting
+-- Files that are laid out with their comments.
+pub mod Keeping
 -- What a text is as a query.
 pub mod Queries
 -- Calls of compiled programs by their trees.
@@ -16,3 +18,5 @@ pub mod TreeCalls
 pub mod Runs
 -- What the trees of a compiled program do.
 pub mod Trees
+-- Values of compiled programs, printed and read back.
+pub mod Printing

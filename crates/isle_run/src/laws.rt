@@ -2,8 +2,10 @@
 ghost use Rattle.isle_run.specs.Laws.Compiled.{AcyclicProgramsAreNotSpent, CompiledMeaningsAreOne, FaultlessRulesHaveNoTies};
 ghost use Rattle.isle_run.specs.Laws.Compiled.{InhabitedProgramsHaveValues, PremisesCanBeMet};
 ghost use Rattle.isle_run.specs.Laws.Formatting.{FormattedTextsAreAlike};
+ghost use Rattle.isle_run.specs.Laws.Keeping.{KeptTextsAreAlike, KeptTextsAreAcceptedAlike, KeptProgramsMeanTheSame};
 ghost use Rattle.isle_meaning.specs.Laws.Order.{OrderMeansNothing};
 ghost use Rattle.isle_run.specs.Laws.Order.{OrderOfTextsMeansNothing};
+ghost use Rattle.isle_run.specs.Laws.Printing.{CompiledValuesReadBack, StringsAreUtf8Texts};
 ghost use Rattle.isle_run.specs.Laws.Queries.{RefusedTextsAreNoCalls, TextsAreOneCall, TextsHaveOneFault};
 ghost use Rattle.isle_run.specs.Laws.Runs.{RunsByTreesSaySo, RunsByRulesSaySo, RunsByTreesAreOne, RunsByRulesAreOne};
 ghost use Rattle.isle_run.specs.Laws.Runs.{DeeperRunsByTreesAreOne, DeeperRunsByRulesAreOne};
@@ -40,6 +42,13 @@ pub use isle_meaning::laws::{
 pub fn printed_values_read_back()
     ensures { (facts : ValueFacts) (v : ValueTree) (ty : ℕ) → IsHeld v → IsOfType facts v ty → IsSpellable v
         → (tokens : List Token) × AreTokensOf (value_text v) tokens × SpellTyped facts tokens v ty }
+{}
+
+/// A value of a type of a compiled program is printed to a text that is read back as it at the type, where the texts of the files are in UTF-8.
+/// Texts of strings are.
+pub fn compiled_values_read_back()
+    ensures read_back { CompiledValuesReadBack }
+    ensures texts { StringsAreUtf8Texts }
 {}
 
 /// A value of a type stays as it is when it is read at the type.
@@ -89,6 +98,14 @@ pub fn spelling_means_nothing()
     ensures programs { AlikeTextsMakeAlikePrograms }
     ensures meaning { AlikeProgramsMeanTheSame }
     ensures formatted { FormattedTextsAreAlike }
+{}
+
+/// Texts that are laid out with their comments spell what they did, positions aside; they are accepted exactly where they were, and a call means
+/// the same in both programs.
+pub fn keeping_means_nothing()
+    ensures alike { KeptTextsAreAlike }
+    ensures accepted { KeptTextsAreAcceptedAlike }
+    ensures meaning { KeptProgramsMeanTheSame }
 {}
 
 /// Faultless rules of terms without `multi` have no ties.

@@ -1,4 +1,6 @@
 //! Tests of `isle_layout`: parts of definitions that are printed by themselves, and definitions that can't be printed.
+pub mod changes;
+
 use crate::syntax::trees::chain;
 use isle_layout::keep::keep;
 use isle_layout::printer::print_node;
@@ -71,6 +73,9 @@ pub const KEPT: &str = "
 | 80: (attr a) ; b\r\n\r\n\r\n(attr\r\n d)\r\n → (attr a) ; b\n\n(attr d)
 | 12: (attr a b) ; a comment that is longer → (attr a b) ; a comment that is longer
 | 80: (attr (; a\n   b ;) c) → (attr (; a\n   b ;)\n    c\n)
+| 80: (attr (; a \t\r\n   b\t ;) c) → (attr (; a\n   b\t ;)\n    c\n)
+| 80: (; a (; b ;) \r\n c ;)(attr d) → (; a (; b ;)\n c ;)\n(attr d)
+| 80: (attr a) (; b\r\n \t\r\n;) → (attr a) (; b\n\n;)
 | 80: (attr -0b1_0 0X_fF 12abc \"é\") → (attr -0b1_0 0X_fF 12 abc \"é\")
 | 80: (attr a → refused
 | 80: (attr a) (; b → refused";

@@ -1,4 +1,5 @@
 //! Tables of texts, with what is wanted of each.
+use crate::layout::changes::{CHANGES, changed};
 use crate::layout::{KEPT, PARTS, kept, part};
 use crate::syntax::lexer::{CLASSES, classes};
 use crate::syntax::trees::{OFFSETS, offsets};
@@ -17,6 +18,8 @@ enum Asked {
     Parts,
     /// What it is laid out as with its comments.
     Kept,
+    /// What changes between its two texts.
+    Changed,
     /// The functions of the host that stand for its term.
     Functions,
     /// What its rules are called.
@@ -29,6 +32,7 @@ fn answer(alloc: Global, asked: Asked, text: &str) -> Result<String, Fail> {
         Asked::Offsets => offsets(alloc, text),
         Asked::Parts => part(alloc, text),
         Asked::Kept => kept(alloc, text),
+        Asked::Changed => changed(alloc, text),
         Asked::Functions => functions(alloc, text),
         Asked::Identifiers => identifiers(alloc, text),
     }
@@ -54,6 +58,7 @@ fn texts_are_answered(rt: HostRuntime) -> Result<(), Fail> {
         (Asked::Offsets, OFFSETS),
         (Asked::Parts, PARTS),
         (Asked::Kept, KEPT),
+        (Asked::Changed, CHANGES),
         (Asked::Functions, FUNCTIONS),
         (Asked::Identifiers, IDENTIFIERS),
     ] {

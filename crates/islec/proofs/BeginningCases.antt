@@ -7,14 +7,16 @@ use Rattle.std.specs.Prelude.{String}
 use Rattle.clap.specs.Words.{kind_of}
 use Rattle.clap.specs.declared.error.Error.{Error}
 use Rattle.clap.specs.declared.error.kind.ErrorKind.TheVariants.{DisplayHelp, DisplayVersion, UnknownArgument}
-use Rattle.islec.specs.Beginnings.{AsksForHelp, BecomesUnbegun, IsUnread, IsUnreadWorld, TellsUnbegun, unread_lines}
+use Rattle.islec.specs.Beginnings.{AsksForHelp, BecomesUnbegun, IsUnread, IsUnreadWorld, TellsUnbegun}
 use Rattle.std.specs.declared.io.ErrorKind.TheVariants as kind
-use Rattle.islec.specs.Causes.{cause_text}
+use Rattle.islec.specs.Causes.{cause_text, unread_lines, unwritten_lines}
 use Rattle.islec.specs.Inputs.{Readings}
 use Rattle.islec.specs.Writing.{AppendsBeginning}
 use Rattle.islec.specs.declared.cause.Cause.TheVariants.{Fails}
 use Rattle.islec.specs.declared.line.LineFault.TheVariants as line_fault
-use Rattle.islec.specs.declared.program.Unbegun.TheVariants.{Usage, NotText, CannotRead, Memory}
+use Rattle.islec.specs.declared.line.Misuse.{Misuse}
+use Rattle.islec.specs.declared.line.Misuse.TheVariants.{WritesInput}
+use Rattle.islec.specs.declared.program.Unbegun.TheVariants.{Usage, Misused, NotText, CannotRead, Memory}
 use Rattle.islec.specs.declared.status.Status.{Status}
 use Rattle.islec.specs.declared.status.Status.TheVariants as status
 
@@ -25,6 +27,9 @@ usage_stays e = refl
 
 usage_is_no_want_of_memory : (e : Error) → BecomesUnbegun (line_fault.Usage e) Memory → ⊥
 usage_is_no_want_of_memory e is = absurd cc
+
+misuse_stays : (misuse : Misuse) → BecomesUnbegun (line_fault.Misuse misuse) (Misused misuse)
+misuse_stays misuse = refl
 
 memory_stays : BecomesUnbegun (line_fault.Memory alloc_error) Memory
 memory_stays = refl
@@ -142,6 +147,16 @@ unread_file_only_fails : (name words : String Global) (ended : Status) (old new 
     → TellsUnbegun (CannotRead name words) ended old new
     → ended ≡ status.InputOutput
 unread_file_only_fails name words ended old new is = is.0
+
+full_disk_is_told : unwritten_lines (codes "a.isle") kind.StorageFull ≡ codes "cannot write a.isle\n  no space\n"
+full_disk_is_told = refl
+
+misuse_is_told : TellsUnbegun (Misused WritesInput) status.Usage one (Some (1 ∷ codes "error: standard input can't be written in place\n"))
+misuse_is_told = inr (refl, refl)
+
+misuse_ends_not_well : (misuse : Misuse) (old new : Option (List ℕ)) → TellsUnbegun (Misused misuse) status.AllWell old new → ⊥
+misuse_ends_not_well misuse old new (inl other) = absurd cc
+misuse_ends_not_well misuse old new (inr (other, is)) = absurd cc
 
 memory_is_told : TellsUnbegun Memory status.OutOfMemory one (Some (1 ∷ codes "out of memory\n"))
 memory_is_told = (refl, (14, refl))

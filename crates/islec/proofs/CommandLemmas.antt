@@ -21,10 +21,10 @@ use Rattle.clap.specs.declared.ArgMatches.TheViews.{out-ArgMatches, out-SubComma
 use Rattle.clap.specs.declared.parser.matches.SubCommand.{SubCommand}
 use Rattle.clap.specs.declared.error.Error.{Error}
 use Rattle.islec.specs.Faults.{BecomesFault}
-use Rattle.islec.specs.Lines.{ReadsLine, RefusesLine, SaysLine}
+use Rattle.islec.specs.Lines.{IsMisused, ReadsLine, RefusesLine, SaysLine}
 use Rattle.islec.specs.declared.line.Line.{Line}
 use Rattle.islec.specs.declared.line.LineFault.{LineFault}
-use Rattle.islec.specs.declared.line.LineFault.TheVariants.{Usage, Memory}
+use Rattle.islec.specs.declared.line.LineFault.TheVariants.{Usage, Misuse, Memory}
 use Rattle.islec.specs.Commands.{IsArgument, IsCommand, blocks_rules, check_rules, fmt_rules, islec, run_rules}
 use Rattle.islec.specs.Inside.Rows.{FillsRules}
 use Rattle.islec.proofs.WalkRows.{OwnRules}
@@ -110,10 +110,19 @@ fmt_own = (
   (
     record { own = refl; keeps = omega arith; wants = unset _ refl; default = unset _ refl },
     (
-      record { own = refl; keeps = omega arith; wants = λ e. omega arith; default = λ e. omega arith },
+      record { own = refl; keeps = omega arith; wants = unset _ refl; default = unset _ refl },
       (
-        record { own = refl; keeps = tt; wants = unset _ refl; default = unset _ refl },
-        tt,
+        record { own = refl; keeps = omega arith; wants = unset _ refl; default = unset _ refl },
+        (
+          record { own = refl; keeps = omega arith; wants = unset _ refl; default = unset _ refl },
+          (
+            record { own = refl; keeps = omega arith; wants = λ e. omega arith; default = λ e. omega arith },
+            (
+              record { own = refl; keeps = tt; wants = unset _ refl; default = unset _ refl },
+              tt,
+            ),
+          ),
+        ),
       ),
     ),
   ),
@@ -309,14 +318,24 @@ as_islec c words e is h = subst (λ a. HasKind (fault_of a words) e) is.is (h (a
 
 abbrev is_usage : LineFault → Bool
 is_usage (Usage e) = true
+is_usage (Misuse m) = false
 is_usage (Memory a) = false
+
+abbrev is_memory : LineFault → Bool
+is_memory (Usage e) = false
+is_memory (Misuse m) = false
+is_memory (Memory a) = true
 
 abbrev error_in : LineFault → Error → Error
 error_in (Usage e) d = e
+error_in (Misuse m) d = d
 error_in (Memory a) d = d
 
 refuses : (words : List Text) (e : Error) (fault : LineFault) → BecomesFault e fault → HasKind (fault_of islec words) e → RefusesLine words fault
 refuses words e (Memory a) is h = tt
+refuses words e (Misuse m) is (inl oom) = absurd (true≢false (ap is_memory (sym (is.memory oom))))
+refuses words e (Misuse m) is (inr among) =
+    absurd (true≢false (ap is_usage (sym (is.usage (λ oom. true≢false (ap is_memory (sym (is.memory oom))))))))
 refuses words e (Usage x) is (inl oom) = absurd (true≢false (ap is_usage (is.memory oom)))
 refuses words e (Usage x) is (inr among) =
     let same : x ≡ e = ap (λ f. error_in f e) (is.usage (λ oom. true≢false (ap is_usage (is.memory oom)))) in
@@ -326,3 +345,11 @@ pub refused : (words : List Text) (e : Error) (r : Result Line LineFault) → Is
     → IfErr r (RefusesLine words)
 refused words e (Ok line) is h = tt
 refused words e (Err fault) is h = refuses words e fault is h
+
+-- options that don't go together, of `fmt` that was met
+pub misuse_refuses : (words : List Text) (m : ArgMatches) (rows : List Row) (r : Result Line LineFault) → Parses words m
+    → subcommand_rows_of m ≡ Some (codes "fmt", rows) → IfErr r (IsMisused rows) → IfErr r (RefusesLine words)
+misuse_refuses words m rows (Ok line) parsed is h = tt
+misuse_refuses words m rows (Err (Usage e)) parsed is h = absurd h
+misuse_refuses words m rows (Err (Misuse x)) parsed is h = (parsed.taken, rows, sym parsed.met ∙ is, h)
+misuse_refuses words m rows (Err (Memory a)) parsed is h = tt

@@ -14,10 +14,11 @@ use Rattle.islec.specs.Endings.{EndsJob, EndsCommand, IsWorld, done, told}
 use Rattle.islec.specs.Inputs.{Readings}
 use Rattle.islec.specs.Lines.{ReadsLine, SaysJob, names_of, world_of}
 use Rattle.islec.specs.Statuses.{code_of}
+use Rattle.islec.specs.declared.format.Printing.{Printing}
 use Rattle.islec.specs.declared.line.Job.{Job}
 use Rattle.islec.specs.declared.line.Line.{Line}
 use Rattle.islec.specs.declared.line.Job.TheVariants.{Run, Check, Blocks, Fmt}
-use Rattle.islec.specs.declared.program.Unbegun.TheVariants.{Usage, NotText, CannotRead, Memory}
+use Rattle.islec.specs.declared.program.Unbegun.TheVariants.{Usage, Misused, NotText, CannotRead, Memory}
 use Rattle.islec.specs.declared.status.Status.TheVariants as status
 use Rattle.islec.specs.declared.terms.Telling.{Telling}
 use Rattle.islec.proofs.CommandCases.{run_words, run_files, run_name, run_world}
@@ -25,21 +26,21 @@ use Rattle.islec.proofs.CommandCases.{run_words, run_files, run_name, run_world}
 -- ---- statuses of jobs
 
 no_check_is_refused_a_query : (telling : Telling) (files : List SourceFile) (world : SourceFile) (input left old new : Option (List ℕ))
-    → EndsJob (Check telling) files world input left old new status.SomeRefused → ⊥
-no_check_is_refused_a_query telling files world input left old new ends = ends.0
+    (before after : Option (List SourceFile)) → EndsJob (Check telling) files world input left old new before after status.SomeRefused → ⊥
+no_check_is_refused_a_query telling files world input left old new before after ends = ends.0
 
-no_print_is_refused_a_query : (width : ℕ) (unformatted : Bool) (files : List SourceFile) (world : SourceFile) (input left old new : Option (List ℕ))
-    → EndsJob (Fmt width unformatted) files world input left old new status.SomeRefused → ⊥
-no_print_is_refused_a_query width unformatted files world input left old new ends = ends.0
+no_print_is_refused_a_query : (printing : Printing) (files : List SourceFile) (world : SourceFile) (input left old new : Option (List ℕ))
+    (before after : Option (List SourceFile)) → EndsJob (Fmt printing) files world input left old new before after status.SomeRefused → ⊥
+no_print_is_refused_a_query printing files world input left old new before after ends = ends.0
 
 no_tree_is_refused_a_query : (terms : Vec (String Global) Global) (dot : Bool) (files : List SourceFile) (world : SourceFile)
-    (input left old new : Option (List ℕ))
-    → EndsJob (Blocks terms dot) files world input left old new status.SomeRefused → ⊥
-no_tree_is_refused_a_query terms dot files world input left old new ends = ends.0
+    (input left old new : Option (List ℕ)) (before after : Option (List SourceFile))
+    → EndsJob (Blocks terms dot) files world input left old new before after status.SomeRefused → ⊥
+no_tree_is_refused_a_query terms dot files world input left old new before after ends = ends.0
 
 no_run_is_refused_its_words : (manner : Manner) (files : List SourceFile) (world : SourceFile) (input left old new : Option (List ℕ))
-    → EndsJob (Run manner) files world input left old new status.Usage → ⊥
-no_run_is_refused_its_words manner files world input left old new ends = ends
+    (before after : Option (List SourceFile)) → EndsJob (Run manner) files world input left old new before after status.Usage → ⊥
+no_run_is_refused_its_words manner files world input left old new before after ends = ends.0
 
 -- ---- worlds
 
@@ -65,24 +66,28 @@ lacks_only_that k among = only (subst (λ (ks : List ErrorKind). IsAmong k ks) a
     only (inl is) = is
     only (inr never) = absurd never
 
-alone_is_not_well : (gives : Readings) (input left old new : Option (List ℕ)) → EndsCommand gives alone input left old new 0 → ⊥
-alone_is_not_well gives input left old new (done line reads files named world of middle inputs ended code ends) =
+alone_is_not_well : (gives : Readings) (input left old new : Option (List ℕ)) (before after : Option (List SourceFile))
+    → EndsCommand gives alone input left old new before after 0 → ⊥
+alone_is_not_well gives input left old new before after (done line reads files named world of middle inputs ended code ends) =
     let wrong = sym reads.taken ∙ alone_lacks_a_command in absurd cc
-alone_is_not_well gives input left old new (told (Usage e) holds status.AllWell code (inl other)) = absurd cc
-alone_is_not_well gives input left old new (told (Usage e) holds status.AllWell code (inr (inl (inl help, same)))) =
+alone_is_not_well gives input left old new before after (told (Usage e) holds status.AllWell code (inl other) stays) = absurd cc
+alone_is_not_well gives input left old new before after (told (Usage e) holds status.AllWell code (inr (inl (inl help, same))) stays) =
     let wrong = sym (lacks_only_that (kind_of e) holds) ∙ help in absurd cc
-alone_is_not_well gives input left old new (told (Usage e) holds status.AllWell code (inr (inl (inr version, same)))) =
+alone_is_not_well gives input left old new before after (told (Usage e) holds status.AllWell code (inr (inl (inr version, same))) stays) =
     let wrong = sym (lacks_only_that (kind_of e) holds) ∙ version in absurd cc
-alone_is_not_well gives input left old new (told (Usage e) holds status.AllWell code (inr (inr (no_help, other)))) = absurd cc
-alone_is_not_well gives input left old new (told (Usage e) holds status.TextsRefused code tells) = absurd cc
-alone_is_not_well gives input left old new (told (Usage e) holds status.Usage code tells) = absurd cc
-alone_is_not_well gives input left old new (told (Usage e) holds status.SomeRefused code tells) = absurd cc
-alone_is_not_well gives input left old new (told (Usage e) holds status.InputOutput code tells) = absurd cc
-alone_is_not_well gives input left old new (told (Usage e) holds status.OutOfMemory code tells) = absurd cc
-alone_is_not_well gives input left old new (told NotText holds ended code tells) = absurd holds
-alone_is_not_well gives input left old new (told (CannotRead name words) (line, reads, why) ended code tells) =
+alone_is_not_well gives input left old new before after (told (Usage e) holds status.AllWell code (inr (inr (no_help, other))) stays) = absurd cc
+alone_is_not_well gives input left old new before after (told (Usage e) holds status.TextsRefused code tells stays) = absurd cc
+alone_is_not_well gives input left old new before after (told (Usage e) holds status.Usage code tells stays) = absurd cc
+alone_is_not_well gives input left old new before after (told (Usage e) holds status.SomeRefused code tells stays) = absurd cc
+alone_is_not_well gives input left old new before after (told (Usage e) holds status.InputOutput code tells stays) = absurd cc
+alone_is_not_well gives input left old new before after (told (Usage e) holds status.OutOfMemory code tells stays) = absurd cc
+alone_is_not_well gives input left old new before after (told (Misused m) (taken, rows, met, why) ended code tells stays) =
+    let wrong = sym taken ∙ alone_lacks_a_command in absurd cc
+alone_is_not_well gives input left old new before after (told NotText holds ended code tells stays) = absurd holds
+alone_is_not_well gives input left old new before after (told (CannotRead name words) (line, reads, why) ended code tells stays) =
     let wrong = sym reads.taken ∙ alone_lacks_a_command in absurd cc
-alone_is_not_well gives input left old new (told Memory holds ended code (same, wrote)) = let wrong = code ∙ ap code_of same in absurd cc
+alone_is_not_well gives input left old new before after (told Memory holds ended code (same, wrote) stays) =
+    let wrong = code ∙ ap code_of same in absurd cc
 
 -- ---- a run of two files in a world, in the words of `CommandCases`: the files and the world have just these names
 
@@ -103,7 +108,7 @@ world_is (Blocks terms dot) name rows met (named, names, flag) =
     let is_run = same_Some _ _ (sym (ap (option_map (λ p. p.0)) met) ∙ run_name) in
     let wrong : true ≡ false = ap (λ (text : Text). bytes_eq text (codes "run")) (sym is_run ∙ named) in
     absurd (true≢false wrong)
-world_is (Fmt width unformatted) name rows met (named, number, flag) =
+world_is (Fmt printing) name rows met (named, number, keep, output, fits) =
     let is_run = same_Some _ _ (sym (ap (option_map (λ p. p.0)) met) ∙ run_name) in
     let wrong : true ≡ false = ap (λ (text : Text). bytes_eq text (codes "run")) (sym is_run ∙ named) in
     absurd (true≢false wrong)

@@ -25,22 +25,23 @@ source_names [] = refl
 source_names (text ∷ others) = ap (λ (names : List Text). string_bytes text.0 ∷ names) (source_names others)
 
 -- a command that begins as its words say ends as its job does
-pub ends_done : (gives : Readings) (words : List Text) (begun : Begun) (input left old new : Option (List ℕ)) (code : ℕ)
-    (middle : Option (List ℕ)) → Begins gives words input middle begun
+pub ends_done : (gives : Readings) (words : List Text) (begun : Begun) (input left old new : Option (List ℕ))
+    (before after : Option (List SourceFile)) (code : ℕ) (middle : Option (List ℕ)) → Begins gives words input middle begun
     → (status : Status) × (code ≡ code_of status) × EndsJob begun.job (map source_file begun.texts.items)
-    (world_file begun.world) middle left old new status
-    → EndsCommand gives words input left old new code
-ends_done gives words begun input left old new code middle begins (status, is, ends) =
+    (world_file begun.world) middle left old new before after status
+    → EndsCommand gives words input left old new before after code
+ends_done gives words begun input left old new before after code middle begins (status, is, ends) =
     done begins.line begins.reads (map source_file begun.texts.items)
     (source_names begun.texts.items ∙ ap (λ (names : List (String Global)). map string_bytes names) begins.texts)
     (world_file begun.world) begins.world middle begins.inputs status is
-    (subst (λ (job : Job). EndsJob job (map source_file begun.texts.items) (world_file begun.world) middle left old new status) begins.job ends)
+    (subst (λ (job : Job). EndsJob job (map source_file begun.texts.items) (world_file begun.world) middle left old new before after status)
+    begins.job ends)
 
 -- however a command ends, it has a status
-pub status_of : (gives : Readings) (words : List Text) (input left old new : Option (List ℕ)) (code : ℕ)
-    → EndsCommand gives words input left old new code → (status : Status) × (code ≡ code_of status)
-status_of gives words input left old new code (done line reads files named world of middle inputs status is ends) = (status, is)
-status_of gives words input left old new code (told why holds status is tells) = (status, is)
+pub status_of : (gives : Readings) (words : List Text) (input left old new : Option (List ℕ)) (before after : Option (List SourceFile)) (code : ℕ)
+    → EndsCommand gives words input left old new before after code → (status : Status) × (code ≡ code_of status)
+status_of gives words input left old new before after code (done line reads files named world of middle inputs status is ends) = (status, is)
+status_of gives words input left old new before after code (told why holds status is tells stays) = (status, is)
 
 -- a file that isn't read behind others is one of the names
 pub unread_among : (gives : Readings) (reads : Bool) (read : List SourceFile) (names : List (String Global)) (name : String Global) (why : Unbegun)

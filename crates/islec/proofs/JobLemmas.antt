@@ -6,10 +6,11 @@ use Rattle.isle_ast.specs.Positions.Files.{SourceFile}
 use Rattle.isle_program.specs.Compiled.{AreAccepted}
 use Rattle.islec.specs.declared.answer.Manner.{Manner}
 use Rattle.islec.specs.Drawing.{WritesTrees, WritesUnknown, CutsTrees}
-use Rattle.islec.specs.Endings.{EndsRun, EndsCheck, EndsBlocks, EndsFmt}
-use Rattle.islec.specs.Formatting.{WritesPrints, RefusesPrints, CutsPrints}
+use Rattle.islec.specs.Endings.{EndsRun, EndsCheck, EndsBlocks}
+use Rattle.islec.specs.Formatting.{EndsFmt, IsFormatted}
 use Rattle.islec.specs.Running.{WritesFaults, WritesAccepted, WritesAnswers, WritesRefusal, CutsCheck, CutsRun, AnswersSome}
 use Rattle.islec.specs.Statuses.{IsEnd, EndsAs}
+use Rattle.islec.specs.declared.format.Printing.{Printing}
 use Rattle.islec.specs.declared.serve.ServeFault.{ServeFault}
 use Rattle.islec.specs.declared.serve.ServeFault.TheVariants.{Read, Write, Memory}
 use Rattle.islec.specs.declared.status.Status.{Status}
@@ -89,21 +90,12 @@ module _ (names : List (List ℕ)) (dot : Bool) (files : List SourceFile) (old m
   blocks_ends (Err Memory) status new (is, wrote) drawn unknown refused other cut memory =
       subst (λ s. EndsBlocks names dot files old new s) (sym is) (line_behind old new (codes "out of memory\n") (mid, memory refl, wrote))
 
-module _ (unformatted : Bool) (width : ℕ) (files : List SourceFile) (old mid : Option (List ℕ)) where
+module _ (printing : Printing) (files : List SourceFile) (old mid : Option (List ℕ)) (before after : Option (List SourceFile)) where
   pub fmt_ends : (done : Result Status ServeFault) (status : Status) (new : Option (List ℕ)) → EndsAs done status mid new
-      → IfOk done (λ s. s ≡ AllWell → WritesPrints unformatted width files old mid)
-      → IfOk done (λ s. s ≡ TextsRefused → RefusesPrints unformatted width files old mid)
-      → IfOk done (λ s. (s ≡ AllWell) ⊎ (s ≡ TextsRefused))
-      → IfErr done (λ f. f ≢ Memory → CutsPrints unformatted width files old mid)
-      → IfErr done (λ f. f ≡ Memory → Keeps old mid)
-      → EndsFmt unformatted width files old new status
-  fmt_ends (Ok own) status new (is, same) printed refused (inl e) cut memory =
-      moved (λ n s. EndsFmt unformatted width files old n s) AllWell status mid new (is ∙ e) same (printed e)
-  fmt_ends (Ok own) status new (is, same) printed refused (inr e) cut memory =
-      moved (λ n s. EndsFmt unformatted width files old n s) TextsRefused status mid new (is ∙ e) same (refused e)
-  fmt_ends (Err Read) status new (is, same) printed refused other cut memory =
-      moved (λ n s. EndsFmt unformatted width files old n s) InputOutput status mid new is same (cut (λ no. absurd cc))
-  fmt_ends (Err Write) status new (is, same) printed refused other cut memory =
-      moved (λ n s. EndsFmt unformatted width files old n s) InputOutput status mid new is same (cut (λ no. absurd cc))
-  fmt_ends (Err Memory) status new (is, wrote) printed refused other cut memory =
-      subst (λ s. EndsFmt unformatted width files old new s) (sym is) (line_behind old new (codes "out of memory\n") (mid, memory refl, wrote))
+      → IsFormatted printing files old mid before after done → EndsFmt printing files old new before after status
+  fmt_ends (Ok own) status new (is, same) ends = moved (λ n s. EndsFmt printing files old n before after s) own status mid new is same ends
+  fmt_ends (Err Read) status new (is, same) ends = moved (λ n s. EndsFmt printing files old n before after s) InputOutput status mid new is same ends
+  fmt_ends (Err Write) status new (is, same) ends = moved (λ n s. EndsFmt printing files old n before after s) InputOutput status mid new is same ends
+  fmt_ends (Err Memory) status new (is, wrote) (kept, stops) =
+      subst (λ s. EndsFmt printing files old new before after s) (sym is)
+      (line_behind old new (codes "out of memory\n") (mid, kept, wrote), stops)

@@ -1,9 +1,7 @@
 -- How writes that follow one another add up.
 pub mod WritingLemmas
--- Files that are printed one after another.
+-- Files that are laid out one after another, and what becomes of them.
 pub mod PrintsLemmas
--- Files that are printed are spelt.
-pub mod SpeltPrints
 -- What is written of files that are refused.
 pub mod RefusedFiles
 -- How jobs end, by what their parts promise.

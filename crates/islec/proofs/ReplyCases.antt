@@ -1,5 +1,5 @@
 -- Worked cases: where effects lead, and which world replies leave.
-use Rattle.std.proofs.Common.{arith, ◌≡◌, ◌≤◌, ◌+◌, ◌++◌, ◌||◌, append-nil, ap₂, ℕ, Bool, true, false, true≢false, List, [], ◌∷◌, Option, inl, inr, map, refl, sym, ap, subst}
+use Rattle.std.proofs.Common.{arith, ◌≡◌, ◌⊎◌, ◌≤◌, ◌+◌, ◌++◌, ◌||◌, append-nil, ap₂, ℕ, Bool, true, false, true≢false, List, [], ◌∷◌, Option, Some, inl, inr, map, refl, sym, ap, subst}
 use Rattle.std.proofs.Common.{◌∙◌, codes}
 use Rattle.std.specs.Char.{encode_utf8}
 use Rattle.std.specs.Str.{IsUtf8, is_utf8, chars}
@@ -24,8 +24,11 @@ use Rattle.isle_values.specs.Values.TextTokens.{AreTokensOf, alone, bare}
 use Rattle.islec.specs.declared.answer.Manner.{Manner}
 use Rattle.islec.specs.Reasons.{IsReason}
 use Rattle.islec.proofs.ReasonCases.{no_is_a_line}
-use Rattle.islec.specs.Replies.{Setting, Leads, IsReply, TellsRefused, no_text, blank, no_call, call, refused_line}
-use Rattle.islec.specs.Serving.{AreReplies}
+use Rattle.islec.specs.Replies.{Setting, Leads, IsReply, LosesReply, TellsRefused, no_text, blank, no_call, call, refused_line}
+use Rattle.islec.specs.Serving.{AreReplies, BreaksOff, LosesNext}
+use Rattle.islec.specs.declared.serve.ServeFault.TheVariants.{Read, Write}
+use Rattle.islec.specs.declared.serve.ServeFault.TheVariants.{Memory as OutOf}
+use Rattle.std.specs.List.{slice_index_or}
 
 -- a world that counts effects
 abbrev counts : ℕ → List ℕ → ValueTrees → Option ValueTree → ℕ → Type 0
@@ -262,3 +265,38 @@ literal_lines_only p a out refused after (
       counted ∙ ap₂ (λ x y. x || y) this.1 (told ∙ ap₂ (λ x y. x || y) that.1 (tells ∙ ap₂ (λ x y. x || y) those.1 well)),
       omega (arith, stays, this.2, that.2, those.2),
     )
+
+-- ---- where answering breaks off: of two lines one is answered, and the second is the next one
+
+-- the second of some lines
+abbrev second : List (List ℕ) → List ℕ
+second lines = slice_index_or lines 1 []
+
+nothing_may_be_lost : (p : Program) (a : Answers) → LosesNext (counting p a) (Some (codes "a\nb\n")) (codes "a" ∷ []) 3 3
+nothing_may_be_lost p a = inl refl
+
+only_the_next_reply_may_be_lost : (p : Program) (a : Answers) (after : ℕ) → LosesNext (counting p a) (Some (codes "a\nb\n")) (codes "a" ∷ []) 3 after
+    → (after ≡ 3) ⊎ LosesReply (counting p a) 3 (codes "b") after
+only_the_next_reply_may_be_lost p a after (inl same) = inl same
+only_the_next_reply_may_be_lost p a after (inr (line, (later, is), lost)) =
+    let next : line ≡ codes "b" = sym (ap second is) in inr (subst (λ (l : List ℕ). LosesReply (counting p a) 3 l after) next lost)
+
+failed_read_does_nothing : (p : Program) (a : Answers) (behind left : Option (List ℕ)) (part : List ℕ) (after : ℕ)
+    → BreaksOff (counting p a) Read behind left part 3 after → after ≡ 3
+failed_read_does_nothing p a behind left part after breaks = breaks.1
+
+no_line_that_ended_is_lost_to_a_failed_read : (p : Program) (a : Answers) (behind left : Option (List ℕ)) (after : ℕ)
+    → BreaksOff (counting p a) Read behind left (codes "b\n") 3 after → ⊥
+no_line_that_ended_is_lost_to_a_failed_read p a behind left after breaks = breaks.0.1 (codes "b") refl
+
+failed_write_breaks_off_elsewhere : (p : Program) (a : Answers) (behind left : Option (List ℕ)) (part : List ℕ) (after : ℕ)
+    → BreaksOff (counting p a) Write behind left part 3 after → ⊥
+failed_write_breaks_off_elsewhere p a behind left part after breaks = breaks
+
+memory_may_lose_the_next_reply : (p : Program) (a : Answers) (after : ℕ)
+    → BreaksOff (counting p a) OutOf (Some (codes "b\nc")) (Some (codes "c")) (codes "b\n") 3 after
+    → (after ≡ 3) ⊎ LosesReply (counting p a) 3 (codes "b") after
+memory_may_lose_the_next_reply p a after (cut, inl same) = inl same
+memory_may_lose_the_next_reply p a after (cut, inr (line, bare, gives, lost)) =
+    let next : line ≡ codes "b" = sym (ap (λ (lines : List (List ℕ)). slice_index_or lines 0 []) gives) in
+    inr (subst (λ (l : List ℕ). LosesReply (counting p a) 3 l after) next lost)

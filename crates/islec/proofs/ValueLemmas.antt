@@ -136,12 +136,24 @@ pub fmt_width : (rows : List Row) → FillsRules fmt_rules rows
     → (v : Text) × (one_of (codes "width") rows ≡ Some v) × IsUnsignedIn 0 1000000 v
 fmt_width rows f = one_reads fmt_rules (rule fmt_rules 0) rows refl f.fits (f.whole.0 (inr (omega arith)))
 
-pub fmt_unformatted : (rows : List Row) → FillsRules fmt_rules rows
+pub fmt_keep : (rows : List Row) → FillsRules fmt_rules rows
+    → (one_of (codes "keep") rows ≡ Some (codes "true")) ⊎ (one_of (codes "keep") rows ≡ Some (codes "false"))
+fmt_keep rows f = let v = one_reads fmt_rules (rule fmt_rules 1) rows refl f.fits (f.whole.1.0 (inr (omega arith))) in bool_word _ v.0 v.1 v.2
+
+pub fmt_check : (rows : List Row) → FillsRules fmt_rules rows
     → (one_of (codes "check") rows ≡ Some (codes "true")) ⊎ (one_of (codes "check") rows ≡ Some (codes "false"))
-fmt_unformatted rows f = let v = one_reads fmt_rules (rule fmt_rules 1) rows refl f.fits (f.whole.1.0 (inr (omega arith))) in bool_word _ v.0 v.1 v.2
+fmt_check rows f = let v = one_reads fmt_rules (rule fmt_rules 2) rows refl f.fits (f.whole.1.1.0 (inr (omega arith))) in bool_word _ v.0 v.1 v.2
+
+pub fmt_diff : (rows : List Row) → FillsRules fmt_rules rows
+    → (one_of (codes "diff") rows ≡ Some (codes "true")) ⊎ (one_of (codes "diff") rows ≡ Some (codes "false"))
+fmt_diff rows f = let v = one_reads fmt_rules (rule fmt_rules 3) rows refl f.fits (f.whole.1.1.1.0 (inr (omega arith))) in bool_word _ v.0 v.1 v.2
+
+pub fmt_write : (rows : List Row) → FillsRules fmt_rules rows
+    → (one_of (codes "write") rows ≡ Some (codes "true")) ⊎ (one_of (codes "write") rows ≡ Some (codes "false"))
+fmt_write rows f = let v = one_reads fmt_rules (rule fmt_rules 4) rows refl f.fits (f.whole.1.1.1.1.0 (inr (omega arith))) in bool_word _ v.0 v.1 v.2
 
 pub fmt_files : (rows : List Row) → FillsRules fmt_rules rows → (vs : List Text) × (all_of (codes "file") rows ≡ Some vs) × (0 < length vs)
-fmt_files rows f = let v = all_reads fmt_rules (rule fmt_rules 2) rows refl f.fits (f.whole.1.1.0 (inl refl)) in (v.0, v.1, v.2)
+fmt_files rows f = let v = all_reads fmt_rules (rule fmt_rules 5) rows refl f.fits (f.whole.1.1.1.1.1.0 (inl refl)) in (v.0, v.1, v.2)
 
 -- ---- numbers
 

@@ -1,5 +1,5 @@
 -- Why a command was not begun, and what is told of it.
-use Rattle.std.specs.Prelude.{◌≡◌, ◌⊎◌, ◌++◌, ℕ, Bool, List, Option, Some, String, Result, Ok, Err, codes, string_bytes}
+use Rattle.std.specs.Prelude.{◌≡◌, ◌⊎◌, ℕ, Bool, List, Option, Some, String, Result, Ok, Err, codes, string_bytes}
 use Rattle.std.specs.Global.{Global}
 use Rattle.std.specs.List.{Contains}
 use Rattle.std.specs.Io.KnownBytes.{Appends}
@@ -9,14 +9,16 @@ use Rattle.clap.specs.declared.error.kind.ErrorKind.TheVariants.{DisplayHelp, Di
 use Rattle.std.specs.Str.{IsUtf8}
 use Rattle.std.specs.Str.Lossy.{utf8_valid_len}
 use Rattle.std.specs.declared.io.ErrorKind.{ErrorKind}
-use Rattle.islec.specs.Causes.{cause_text}
+use Rattle.islec.specs.Causes.{cause_text, unread_lines}
 use Rattle.islec.specs.Inputs.{Readings, GivesFile, is_input}
 use Rattle.islec.specs.declared.cause.Cause.{Cause}
 use Rattle.islec.specs.declared.cause.Cause.TheVariants.{NotUtf8, Fails}
 use Rattle.islec.specs.declared.line.LineFault.{LineFault}
 use Rattle.islec.specs.declared.line.LineFault.TheVariants as line_fault
+use Rattle.islec.specs.declared.line.Misuse.{Misuse}
+use Rattle.islec.specs.declared.line.Misuse.TheVariants.{Loses, WritesAndTells, WritesInput}
 use Rattle.islec.specs.declared.program.Unbegun.{Unbegun}
-use Rattle.islec.specs.declared.program.Unbegun.TheVariants.{Usage, NotText, CannotRead, Memory}
+use Rattle.islec.specs.declared.program.Unbegun.TheVariants.{Usage, Misused, NotText, CannotRead, Memory}
 use Rattle.islec.specs.declared.status.Status.{Status}
 use Rattle.islec.specs.declared.status.Status.TheVariants as status
 use Rattle.islec.specs.Writing.{AppendsBeginning}
@@ -24,6 +26,7 @@ use Rattle.islec.specs.Writing.{AppendsBeginning}
 -- what a fault of a command line becomes: the same
 abbrev pub BecomesUnbegun : LineFault → Unbegun → Type 0
 BecomesUnbegun (line_fault.Usage error) unbegun = unbegun ≡ Usage error
+BecomesUnbegun (line_fault.Misuse misuse) unbegun = unbegun ≡ Misused misuse
 BecomesUnbegun (line_fault.Memory error) unbegun = unbegun ≡ Memory
 
 -- memory ran out, or the file of this name can't be read, for this cause
@@ -58,19 +61,18 @@ IsUnreadWorld gives name unbegun =
 abbrev pub AsksForHelp : Error → Type 0
 AsksForHelp error = (kind_of error ≡ DisplayHelp) ⊎ (kind_of error ≡ DisplayVersion)
 
--- a line of two parts
-abbrev pub line_of_two : List ℕ → List ℕ → List ℕ
-line_of_two first second = first ++ (second ++ codes "\n")
-
--- the line that tells which file can't be read, and the one that tells why
-abbrev pub unread_lines : (name cause : List ℕ) → List ℕ
-unread_lines name cause = line_of_two (codes "cannot read ") name ++ line_of_two (codes "  ") cause
+-- the line that tells why options of `fmt` don't go together
+abbrev pub misuse_text : Misuse → List ℕ
+misuse_text Loses = codes "error: --diff and --write need --keep, so that nothing is lost\n"
+misuse_text WritesAndTells = codes "error: --write can't be used with --check or --diff\n"
+misuse_text WritesInput = codes "error: standard input can't be written in place\n"
 
 -- the status of a command that was not begun, and what is written of it where no write fails: all is well where help was asked for, else
 -- the words are refused, or a file can't be read, or memory ran out; a write that fails has a status of its own
 abbrev pub TellsUnbegun : Unbegun → Status → (old new : Option (List ℕ)) → Type 0
 TellsUnbegun (Usage error) ended old new = (ended ≡ status.InputOutput)
     ⊎ ((AsksForHelp error × (ended ≡ status.AllWell)) ⊎ ((¬ AsksForHelp error) × (ended ≡ status.Usage)))
+TellsUnbegun (Misused misuse) ended old new = (ended ≡ status.InputOutput) ⊎ ((ended ≡ status.Usage) × Appends old new (misuse_text misuse))
 TellsUnbegun NotText ended old new = (ended ≡ status.InputOutput)
     ⊎ ((ended ≡ status.Usage) × Appends old new (codes "error: a word of the command line isn't UTF-8\n"))
 TellsUnbegun (CannotRead name cause) ended old new =

@@ -84,6 +84,18 @@ rule_files = record (new_rule (codes "file")) {
 abbrev pub unformatted : Rule
 unformatted = record (new_rule (codes "check")) { long = Some (codes "check"); action = Some SetTrue }
 
+-- `--keep`
+abbrev pub keep : Rule
+keep = record (new_rule (codes "keep")) { long = Some (codes "keep"); action = Some SetTrue }
+
+-- `--diff`
+abbrev pub diff : Rule
+diff = record (new_rule (codes "diff")) { long = Some (codes "diff"); action = Some SetTrue }
+
+-- `--write`
+abbrev pub write : Rule
+write = record (new_rule (codes "write")) { long = Some (codes "write"); action = Some SetTrue }
+
 -- `run`, with a world, a depth, `--plain`, `--steps`, `--trace`, `--coverage`, `--unanswered`, `--explain` and files
 abbrev pub run : App
 run = with_rule (with_rule (with_rule (with_rule (with_rule (with_rule (with_rule (with_rule (with_rule (new_app (codes "run")) world) depth) plain)
@@ -97,9 +109,9 @@ check = with_rule (with_rule (with_rule (with_rule (new_app (codes "check")) ter
 abbrev pub blocks : App
 blocks = with_rule (with_rule (with_rule (new_app (codes "blocks")) term) dot) rule_files
 
--- `fmt`, with a width, `--check` and files
+-- `fmt`, with a width, `--keep`, `--check`, `--diff`, `--write` and files
 abbrev pub fmt : App
-fmt = with_rule (with_rule (with_rule (new_app (codes "fmt")) width) unformatted) rule_files
+fmt = with_rule (with_rule (with_rule (with_rule (with_rule (with_rule (new_app (codes "fmt")) width) keep) unformatted) diff) write) rule_files
 
 -- a command that does nothing without a subcommand
 abbrev pub with_required : App → App

@@ -11,10 +11,10 @@ use Rattle.islec.specs.Beginnings.{IsCauseOf, TellsUnbegun}
 use Rattle.islec.specs.Causes.{cause_text}
 use Rattle.islec.specs.Commands.{islec}
 use Rattle.islec.specs.Drawing.{WritesTrees, WritesUnknown, CutsTrees}
-use Rattle.islec.specs.Formatting.{WritesPrints, RefusesPrints, CutsPrints}
+use Rattle.islec.specs.Formatting.{EndsFmt}
 use Rattle.islec.specs.Inputs.{Readings, GivesFile, ReadsFiles, is_input}
 use Rattle.islec.specs.Jobs.{reads_input}
-use Rattle.islec.specs.Lines.{ReadsLine, names_of}
+use Rattle.islec.specs.Lines.{Misuses, ReadsLine, names_of}
 use Rattle.islec.specs.Running.{WritesFaults, WritesAccepted, WritesAnswers, WritesRefusal, CutsCheck, CutsRun, RunsOut}
 use Rattle.islec.specs.Statuses.{code_of}
 use Rattle.islec.specs.Worlds.{world_file}
@@ -57,21 +57,16 @@ EndsBlocks names dot files old new SomeRefused = ⊥
 EndsBlocks names dot files old new InputOutput = CutsTrees files names dot old new
 EndsBlocks names dot files old new OutOfMemory = AppendsBeginning old new (codes "out of memory\n")
 
--- what is written of files that are printed, or of which the unformatted are asked for
-abbrev pub EndsFmt : (unformatted : Bool) → (width : ℕ) → List SourceFile → (old new : Option (List ℕ)) → Status → Type 0
-EndsFmt unformatted width files old new AllWell = WritesPrints unformatted width files old new
-EndsFmt unformatted width files old new TextsRefused = RefusesPrints unformatted width files old new
-EndsFmt unformatted width files old new Usage = ⊥
-EndsFmt unformatted width files old new SomeRefused = ⊥
-EndsFmt unformatted width files old new InputOutput = CutsPrints unformatted width files old new
-EndsFmt unformatted width files old new OutOfMemory = AppendsBeginning old new (codes "out of memory\n")
-
--- what is written of a job on files, in the world of a file, by the status with which it ends; only a run reads the input
-abbrev pub EndsJob : Job → List SourceFile → (world : SourceFile) → (input left old new : Option (List ℕ)) → Status → Type 0
-EndsJob (Run manner) files world input left old new status = EndsRun manner files world input left old new status
-EndsJob (Check telling) files world input left old new status = EndsCheck telling files old new status × (left ≡ input)
-EndsJob (Blocks terms dot) files world input left old new status = EndsBlocks (names_of terms) dot files old new status × (left ≡ input)
-EndsJob (Fmt width unformatted) files world input left old new status = EndsFmt unformatted width files old new status × (left ≡ input)
+-- what is written of a job on files, in the world of a file, by the status with which it ends; only a run reads the input, and only a layout
+-- may put files in their place
+abbrev pub EndsJob : Job → List SourceFile → (world : SourceFile) → (input left old new : Option (List ℕ))
+    → (before after : Option (List SourceFile)) → Status → Type 0
+EndsJob (Run manner) files world input left old new before after status = EndsRun manner files world input left old new status × (after ≡ before)
+EndsJob (Check telling) files world input left old new before after status =
+    EndsCheck telling files old new status × (left ≡ input) × (after ≡ before)
+EndsJob (Blocks terms dot) files world input left old new before after status =
+    EndsBlocks (names_of terms) dot files old new status × (left ≡ input) × (after ≡ before)
+EndsJob (Fmt printing) files world input left old new before after status = EndsFmt printing files old new before after status × (left ≡ input)
 
 -- the file has the name that a line gives its world, and a text that reading it gives; where the line gives none it is empty and named `world`
 abbrev pub IsWorld : Readings → Option (String Global) → SourceFile → Type 0
@@ -92,20 +87,22 @@ TellsUnread gives input line name told = (Contains line.files.items name
 -- memory ran out
 abbrev pub HoldsBack : Readings → List Text → (input : Option (List ℕ)) → Unbegun → Type 0
 HoldsBack gives words input (unbegun.Usage error) = IsAmong (kind_of error) (fault_of islec words)
+HoldsBack gives words input (unbegun.Misused misuse) = Misuses words misuse
 HoldsBack gives words input unbegun.NotText = ⊥
 HoldsBack gives words input (unbegun.CannotRead name told) = (line : Line) × ReadsLine words line × TellsUnread gives input line name told
 HoldsBack gives words input unbegun.Memory = ⊤
 
 -- How a command of these words ends, where reading files gives so, and what it writes: what the job of their line does on the files of the
 -- names that they have, in order, of which those that are standard input are read from it; or what is told of why it may not begin.
-pub data EndsCommand (gives : Readings) (words : List Text) (input left old new : Option (List ℕ)) (code : ℕ) : Type 0 where
+pub data EndsCommand (gives : Readings) (words : List Text) (input left old new : Option (List ℕ)) (before after : Option (List SourceFile))
+    (code : ℕ) : Type 0 where
   done : (line : Line) → ReadsLine words line → (files : List SourceFile) → map (λ file. file.name) files ≡ names_of line.files
       → (world : SourceFile) → IsWorld gives line.world world → (middle : Option (List ℕ))
       → ReadsFiles gives (reads_input line.job) files input middle
-      → (status : Status) → code ≡ code_of status → EndsJob line.job files world middle left old new status
-      → EndsCommand gives words input left old new code
+      → (status : Status) → code ≡ code_of status → EndsJob line.job files world middle left old new before after status
+      → EndsCommand gives words input left old new before after code
   told : (why : Unbegun) → HoldsBack gives words input why → (status : Status) → code ≡ code_of status → TellsUnbegun why status old new
-      → EndsCommand gives words input left old new code
+      → after ≡ before → EndsCommand gives words input left old new before after code
 
 -- a command begins as its words say: with their job, and with a text under each name that they have, in order, for which it has read what is
 -- no longer left of the input

@@ -4,15 +4,15 @@ use Rattle.std.specs.Str.{bytes_eq}
 use Rattle.std.specs.Io.KnownBytes.{Consumes, IsAtEnd}
 use Rattle.std.specs.declared.io.ErrorKind.{ErrorKind}
 use Rattle.isle_ast.specs.Positions.Files.{SourceFile}
-use Rattle.islec.specs.declared.sources.ReadFault.{ReadFault}
-use Rattle.islec.specs.declared.sources.ReadFault.TheVariants.{Fails, Memory}
+use Rattle.islec.specs.declared.sources.FileFault.{FileFault}
+use Rattle.islec.specs.declared.sources.FileFault.TheVariants.{Fails, Memory}
 
 -- what reading the file of a name may give: its bytes, or an error of a kind
 abbrev pub Readings : Type 1
 Readings = List ℕ → Result (List ℕ) ErrorKind → Type 0
 
 -- where reading fails with an error, that is one that it may give
-abbrev pub MayFail : (Result (List ℕ) ErrorKind → Type 0) → ReadFault → Type 0
+abbrev pub MayFail : (Result (List ℕ) ErrorKind → Type 0) → FileFault → Type 0
 MayFail Gives (Fails kind) = Gives (Err kind)
 MayFail Gives Memory = ⊤
 

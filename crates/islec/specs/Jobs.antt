@@ -8,11 +8,11 @@ abbrev pub HasFiles : Job → ℕ → Type 0
 HasFiles (Run manner) files = 0 < files
 HasFiles (Check telling) files = 0 < files
 HasFiles (Blocks terms dot) files = 0 < files
-HasFiles (Fmt width unformatted) files = 0 < files
+HasFiles (Fmt printing) files = 0 < files
 
 -- whether a file named `-` is standard input: not of a run, where that has the queries
 abbrev pub reads_input : Job → Bool
 reads_input (Run manner) = false
 reads_input (Check telling) = true
 reads_input (Blocks terms dot) = true
-reads_input (Fmt width unformatted) = true
+reads_input (Fmt printing) = true

@@ -2,7 +2,9 @@
 pub mod Jobs
 -- How a command ends.
 pub mod Statuses
--- What is printed of files.
+-- What is put in the place of files.
+pub mod Outputs
+-- What becomes of files that are laid out.
 pub mod Formatting
 -- What a run or a check writes of files that are accepted or refused.
 pub mod Running
@@ -28,7 +30,7 @@ pub mod Commands
 pub mod Lines
 -- Which files are standard input, and what is read of it.
 pub mod Inputs
--- Why a file can't be read, in words.
+-- Why a file can't be read or written, in words.
 pub mod Causes
 -- Why a command was not begun, and what is told of it.
 pub mod Beginnings

@@ -1,6 +1,7 @@
 -- What the words of a command line say.
-use Rattle.std.specs.Prelude.{◌≡◌, ℕ, Bool, List, [], Option, Some, None, Vec, String, map, codes, false, option_map, string_bytes, vec_items, unwrap_or, ⊤}
+use Rattle.std.specs.Prelude.{◌≡◌, ◌||◌, if◌then◌else◌, ℕ, Bool, true, List, [], Option, Some, None, Vec, String, map, codes, false, option_map, string_bytes, vec_items, unwrap_or, ⊤}
 use Rattle.std.specs.Global.{Global}
+use Rattle.std.specs.List.{list_any}
 use Rattle.std.specs.Option.{option_map_or}
 use Rattle.std.specs.Str.{bytes_eq}
 use Rattle.std.specs.Str.Parse.{digits_value, without_leading_plus}
@@ -11,6 +12,11 @@ use Rattle.islec.specs.declared.line.Job.TheVariants.{Run, Check, Blocks, Fmt}
 use Rattle.islec.specs.declared.line.Line.{Line}
 use Rattle.islec.specs.declared.line.LineFault.{LineFault}
 use Rattle.islec.specs.declared.line.LineFault.TheVariants.{Usage, Memory}
+use Rattle.islec.specs.declared.line.LineFault.TheVariants as line_fault
+use Rattle.islec.specs.declared.line.Misuse.{Misuse}
+use Rattle.islec.specs.declared.line.Misuse.TheVariants.{Loses, WritesAndTells, WritesInput}
+use Rattle.islec.specs.declared.format.Output.{Output}
+use Rattle.islec.specs.declared.format.Output.TheVariants.{Prints, Names, Changes, Places}
 
 -- the number that is an option's value
 abbrev pub number_of : Text → List Row → Option ℕ
@@ -28,6 +34,29 @@ names_of names = map string_bytes (vec_items names)
 abbrev pub each_of : Text → List Row → List Text
 each_of id rows = unwrap_or (all_of id rows) []
 
+-- what becomes of files that are laid out, where `--check`, `--diff` and `--write` are given or not
+abbrev pub output_of : (check diff write : Bool) → Output
+output_of check diff true = Places
+output_of check true false = Changes
+output_of true false false = Names
+output_of false false false = Prints
+
+-- why options of `fmt` don't go together, where standard input is among the files or not: what changes or shows files needs `--keep`, what
+-- is written isn't told too, and standard input isn't written
+abbrev pub misuse_of : (keep check diff write input : Bool) → Option Misuse
+misuse_of false check diff write input = if diff || write then Some Loses else None
+misuse_of true check diff false input = None
+misuse_of true check diff true input = if check || diff then Some WritesAndTells else (if input then Some WritesInput else None)
+
+-- standard input is among files of these names
+abbrev pub has_input : List Text → Bool
+has_input names = list_any (λ name. bytes_eq name (codes "-")) names
+
+-- why the options of `fmt` that rows hold don't go together
+abbrev pub misuse_in : List Row → Option Misuse
+misuse_in rows = misuse_of (flag_of (codes "keep") rows) (flag_of (codes "check") rows) (flag_of (codes "diff") rows) (flag_of (codes "write") rows)
+    (has_input (each_of (codes "file") rows))
+
 -- the job is the command of this name, with the numbers and flags that its rows hold
 abbrev pub SaysJob : Text → List Row → Job → Type 0
 SaysJob name rows (Run manner) =
@@ -40,8 +69,10 @@ SaysJob name rows (Check telling) =
     × (flag_of (codes "explain") rows ≡ telling.explain)
 SaysJob name rows (Blocks terms dot) =
     (name ≡ codes "blocks") × (each_of (codes "term") rows ≡ names_of terms) × (flag_of (codes "dot") rows ≡ dot)
-SaysJob name rows (Fmt width unformatted) =
-    (name ≡ codes "fmt") × (number_of (codes "width") rows ≡ Some width) × (flag_of (codes "check") rows ≡ unformatted)
+SaysJob name rows (Fmt printing) =
+    (name ≡ codes "fmt") × (number_of (codes "width") rows ≡ Some printing.width) × (flag_of (codes "keep") rows ≡ printing.keep)
+    × (output_of (flag_of (codes "check") rows) (flag_of (codes "diff") rows) (flag_of (codes "write") rows) ≡ printing.output)
+    × (misuse_in rows ≡ None)
 
 -- the name of a world's file, which only `run` takes
 abbrev pub world_of : Job → List Row → Option Text
@@ -62,7 +93,19 @@ pub record ReadsLine (words : List Text) (line : Line) : Type 0 where
   pub met : subcommand_of islec words ≡ Some (name, rows)
   pub says : SaysLine name rows line
 
+-- the words are `fmt` with options that don't go together, for this reason
+abbrev pub Misuses : List Text → Misuse → Type 0
+Misuses words misuse = (fault_of islec words ≡ []) × (rows : List Row) × (subcommand_of islec words ≡ Some (codes "fmt", rows))
+    × (misuse_in rows ≡ Some misuse)
+
 -- a fault of usage is one that `islec` finds in the words, among them that they ask for help
 abbrev pub RefusesLine : List Text → LineFault → Type 0
 RefusesLine words (Usage error) = IsAmong (kind_of error) (fault_of islec words)
+RefusesLine words (line_fault.Misuse misuse) = Misuses words misuse
 RefusesLine words (Memory error) = ⊤
+
+-- rows of `fmt` are refused only for options that don't go together, or for want of memory
+abbrev pub IsMisused : List Row → LineFault → Type 0
+IsMisused rows (Usage error) = ⊥
+IsMisused rows (line_fault.Misuse misuse) = misuse_in rows ≡ Some misuse
+IsMisused rows (Memory error) = ⊤

@@ -1,5 +1,7 @@
 //! The words of a command line.
-ghost use Rattle.std.specs.Prelude.{◌≡◌, ◌<◌, IfErr, IfOk, codes, map, vec_len, alloc_error};
+ghost use Rattle.std.specs.Prelude.{◌≡◌, ◌<◌, IfErr, IfOk, codes, map, string_bytes, vec_len, alloc_error};
+ghost use Rattle.std.specs.List.{list_any};
+ghost use Rattle.std.specs.Str.{bytes_eq};
 ghost use Rattle.clap.specs.Words.{found_of, new_app, rows_of};
 ghost use Rattle.islec.specs.declared.line.LineFault.TheVariants.{Memory};
 ghost use Rattle.islec.specs.Faults.{BecomesFault};
@@ -8,11 +10,13 @@ ghost use Rattle.islec.specs.Commands.{IsArgument, IsCommand, blocks, blocks_rul
 ghost use Rattle.islec.specs.Commands.{depth as the_depth, plain as the_plain, rule_files as the_files, steps as the_steps};
 ghost use Rattle.islec.specs.Commands.{coverage as the_coverage, explain as the_explain, trace as the_trace, unanswered as the_unanswered};
 ghost use Rattle.islec.specs.Commands.{terms as the_terms, warn as the_warn, world as the_world};
+ghost use Rattle.islec.specs.Commands.{width as the_width, keep as the_keep, unformatted, diff as the_diff, write as the_write};
 ghost use Rattle.islec.specs.Commands.{fmt_rules, islec, run, run_rules};
-ghost use Rattle.islec.specs.Lines.{ReadsLine, RefusesLine, SaysLine, names_of};
+ghost use Rattle.islec.specs.Lines.{ReadsLine, RefusesLine, SaysLine, IsMisused, misuse_of as the_misuse_of, names_of, output_of as the_output_of};
 ghost use Rattle.islec.specs.Inside.Rows.{FillsRules};
 
 use crate::answer::Manner;
+use crate::format::{Output, Printing};
 use crate::terms::Telling;
 use clap::builder::ValueParser;
 use clap::error::ErrorKind;
@@ -40,8 +44,8 @@ pub enum Job {
     /// Prints the trees of the rules of the terms of these names; of all terms with rules where there is none. With `dot` they are one
     /// graph.
     Blocks { terms: Vec<String>, dot: bool },
-    /// Prints the files laid out at a width, from 0 to 1,000,000; or with `unformatted` tells the names of those that aren't so.
-    Fmt { width: u32, unformatted: bool },
+    /// Lays the files out, so.
+    Fmt(Printing),
 }
 
 impl Job {
@@ -51,7 +55,7 @@ impl Job {
     {
         match self {
             Job::Run(_) => false,
-            Job::Check(_) | Job::Blocks { .. } | Job::Fmt { .. } => true,
+            Job::Check(_) | Job::Blocks { .. } | Job::Fmt(_) => true,
         }
     }
 }
@@ -61,7 +65,20 @@ impl Job {
 pub enum LineFault {
     /// The words are no command, or ask for help or the version.
     Usage(Error),
+    /// Options of `fmt` that don't go together.
+    Misuse(Misuse),
     Memory(AllocError),
+}
+
+/// Why options of `fmt` don't go together.
+#[derive(Clone, Copy)]
+pub enum Misuse {
+    /// `--diff` or `--write` without `--keep`.
+    Loses,
+    /// `--write` with `--check` or `--diff`.
+    WritesAndTells,
+    /// `--write` on standard input.
+    WritesInput,
 }
 
 impl From<Error> for LineFault {
@@ -104,7 +121,7 @@ pub fn line_of<S: AsStr>(alloc: Global, words: &[S]) -> Result<Line, LineFault>
     let Some(fmt) = matches.subcommand_matches("fmt") else {
         unreachable!()
     };
-    Ok(fmt_line(alloc, fmt)?)
+    fmt_line(alloc, fmt)
 }
 
 fn command<'a>(alloc: Global) -> Result<Command<'a>, AllocError>
@@ -294,26 +311,68 @@ fn rule_files<'a>(alloc: Global, help: &'a str) -> Arg<'a>
 fn fmt_command<'a>(alloc: Global) -> Result<Command<'a>, AllocError>
     ensures { IfOk result (IsCommand fmt) }
 {
-    let width = Arg::new(alloc, "width")
-        .long("width")
-        .value_name("N")
-        .help("How many characters a list on one line may have, at most 1000000")
-        .value_parser(ValueParser::Unsigned(0, 1_000_000))
-        .default_value("80");
-    let unformatted = Arg::new(alloc, "check")
-        .long("check")
-        .help(
-            "Print only the names of the files that aren't formatted, with status 1 if there are any",
-        )
-        .action(ArgAction::SetTrue);
     Command::new(alloc, "fmt")
-        .about("Prints files formatted; keeps neither comments nor the radix of numbers")
-        .arg(width)?
-        .arg(unformatted)?
+        .about("Prints files laid out; loses comments and the radix of numbers, which --keep keeps")
+        .arg(width(alloc))?
+        .arg(keep(alloc))?
+        .arg(check_layout(alloc))?
+        .arg(diff(alloc))?
+        .arg(write(alloc))?
         .arg(rule_files(
             alloc,
             "The files, printed in this order; - is standard input",
         ))
+}
+
+fn width<'a>(alloc: Global) -> Arg<'a>
+    ensures { IsArgument the_width result }
+{
+    Arg::new(alloc, "width")
+        .long("width")
+        .value_name("N")
+        .help("How many characters a list on one line may have, at most 1000000")
+        .value_parser(ValueParser::Unsigned(0, 1_000_000))
+        .default_value("80")
+}
+
+fn keep<'a>(alloc: Global) -> Arg<'a>
+    ensures { IsArgument the_keep result }
+{
+    Arg::new(alloc, "keep")
+        .long("keep")
+        .help("Change white space alone: comments, numbers and single blank lines stay")
+        .action(ArgAction::SetTrue)
+}
+
+fn check_layout<'a>(alloc: Global) -> Arg<'a>
+    ensures { IsArgument unformatted result }
+{
+    Arg::new(alloc, "check")
+        .long("check")
+        .help(
+            "Print only the names of the files that aren't formatted, with status 1 if there are any",
+        )
+        .action(ArgAction::SetTrue)
+}
+
+fn diff<'a>(alloc: Global) -> Arg<'a>
+    ensures { IsArgument the_diff result }
+{
+    Arg::new(alloc, "diff")
+        .long("diff")
+        .help(
+            "With --keep: print what would change in the files, as a unified diff, with status 1 if anything would",
+        )
+        .action(ArgAction::SetTrue)
+}
+
+fn write<'a>(alloc: Global) -> Arg<'a>
+    ensures { IsArgument the_write result }
+{
+    Arg::new(alloc, "write")
+        .long("write")
+        .help("With --keep: write the files in place, where none has a fault, and print nothing")
+        .action(ArgAction::SetTrue)
 }
 
 fn run_line(alloc: Global, matches: &ArgMatches<'_>) -> Result<Line, AllocError>
@@ -385,21 +444,80 @@ fn blocks_line(alloc: Global, matches: &ArgMatches<'_>) -> Result<Line, AllocErr
     })
 }
 
-fn fmt_line(alloc: Global, matches: &ArgMatches<'_>) -> Result<Line, AllocError>
+fn fmt_line(alloc: Global, matches: &ArgMatches<'_>) -> Result<Line, LineFault>
     requires { FillsRules fmt_rules (rows_of (found_of matches.now)) }
     ensures files { IfOk result (λ line. HasFiles line.job (vec_len line.files)) }
     ensures says { IfOk result (λ line. SaysLine (codes "fmt") (rows_of (found_of matches.now)) line) }
+    ensures misused { IfErr result (IsMisused (rows_of (found_of matches.now))) }
 {
     let Some(width) = matches.get_one::<u32>("width") else {
         unreachable!()
     };
     let files = copies(alloc, matches.get_strs("file").unwrap_or(&[]))?;
-    let unformatted = matches.get_flag("check");
+    let keep = matches.get_flag("keep");
+    let check = matches.get_flag("check");
+    let diff = matches.get_flag("diff");
+    let write = matches.get_flag("write");
+    let input = has_input(files.as_slice());
+    if let Some(misuse) = misuse_of(keep, check, diff, write, input) {
+        return Err(LineFault::Misuse(misuse));
+    }
+    let output = output_of(check, diff, write);
     Ok(Line {
-        job: Job::Fmt { width, unformatted },
+        job: Job::Fmt(Printing {
+            width,
+            keep,
+            output,
+        }),
         files,
         world: None,
     })
+}
+
+// Why these options of `fmt` don't go together, where standard input is among the files or not.
+fn misuse_of(keep: bool, check: bool, diff: bool, write: bool, input: bool) -> Option<Misuse>
+    ensures { result ≡ the_misuse_of keep check diff write input }
+{
+    if !keep {
+        return if diff || write {
+            Some(Misuse::Loses)
+        } else {
+            None
+        };
+    }
+    if !write {
+        return None;
+    }
+    if check || diff {
+        return Some(Misuse::WritesAndTells);
+    }
+    if input {
+        Some(Misuse::WritesInput)
+    } else {
+        None
+    }
+}
+
+// Whether standard input is among files of these names.
+fn has_input(files: &[String]) -> bool
+    ensures { result ≡ list_any (λ name. bytes_eq (string_bytes name) (codes "-")) files.now }
+{
+    files.iter().any(|name| name.as_str() == "-")
+}
+
+// What becomes of files that are laid out.
+fn output_of(check: bool, diff: bool, write: bool) -> Output
+    ensures { result ≡ the_output_of check diff write }
+{
+    if write {
+        Output::Places
+    } else if diff {
+        Output::Changes
+    } else if check {
+        Output::Names
+    } else {
+        Output::Prints
+    }
 }
 
 fn copies(alloc: Global, names: &[&str]) -> Result<Vec<String>, AllocError>

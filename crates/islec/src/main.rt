@@ -4,8 +4,9 @@
 pub mod answer;
 pub mod blocks;
 pub mod cause;
+pub mod disk;
 pub mod explain;
-mod format;
+pub mod format;
 pub mod line;
 pub mod perform;
 pub mod program;

@@ -21,6 +21,7 @@ use crate::explain::faults_text;
 use crate::format::format;
 use crate::line::Job;
 use crate::serve::{ServeFault, Served, serve, write_text};
+use crate::sources::Targets;
 use crate::status::{Status, out_of_memory};
 use crate::terms::{Telling, program_text};
 use crate::warn::warnings_text;
@@ -37,16 +38,18 @@ use std::rc::Rc;
 /// Does a command on texts, each with its name, and gives the exit status: 0 all well, 1 texts or
 /// world refused, 2 no term has a name that was asked for, 3 some query refused, stuck, spent or ill-typed, 4 reading or
 /// writing failed, 5 out of memory. Where no world is given its text is empty and its name is `world`.
-pub fn perform<R: BufRead, W: Write>(
+pub fn perform<T: Targets, R: BufRead, W: Write>(
     alloc: Global,
     job: Job,
     texts: Vec<(String, String)>,
     world: Option<(String, String)>,
+    targets: &mut T,
     reader: &mut R,
     writer: &mut W,
 ) -> u8
     ensures ends { (status : Status) × (result ≡ code_of status) × EndsJob job (map source_file texts.items) (world_file world)
-        (R.remaining reader.old) (R.remaining reader.new) (W.contents writer.old) (W.contents writer.new) status }
+        (R.remaining reader.old) (R.remaining reader.new) (W.contents writer.old) (W.contents writer.new)
+        (T.replaced targets.old) (T.replaced targets.new) status }
 {
     let status = match job {
         Job::Run(manner) => {
@@ -61,8 +64,8 @@ pub fn perform<R: BufRead, W: Write>(
             let done = blocks(alloc, terms.as_slice(), dot, texts, writer);
             conclude(done, writer)
         }
-        Job::Fmt { width, unformatted } => {
-            let done = format(alloc, width, unformatted, texts, writer);
+        Job::Fmt(printing) => {
+            let done = format(alloc, printing, texts, targets, writer);
             conclude(done, writer)
         }
     };

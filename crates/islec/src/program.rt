@@ -1,7 +1,8 @@
 //! The program: words, files, and the command on them.
-ghost use Rattle.std.specs.Prelude.{◌≡◌, ◌⊎◌, true, Ok, IfOk, IfErr, OnOk, OnErr, map, string_bytes};
+ghost use Rattle.std.specs.Prelude.{◌≡◌, ◌⊎◌, Ok, IfOk, IfErr, map, string_bytes};
 ghost use Rattle.std.specs.Io.KnownBytes.{Appends, Consumes, IsAtEnd};
-ghost use Rattle.islec.specs.Beginnings.{BecomesUnbegun, TellsUnbegun, IsNoText, IsUnread, IsUnreadFile, IsUnreadFor, IsUnreadWorld, line_of_two, unread_lines};
+ghost use Rattle.islec.specs.Beginnings.{BecomesUnbegun, TellsUnbegun, IsNoText, IsUnread, IsUnreadFile, IsUnreadFor, IsUnreadWorld, misuse_text};
+ghost use Rattle.islec.specs.Causes.{unread_lines};
 ghost use Rattle.islec.specs.Endings.{Begins, EndsCommand, HoldsBack, IsWorld};
 ghost use Rattle.isle_ast.specs.Positions.Files.{source_file};
 ghost use Rattle.islec.specs.Inputs.{GivesFile, GivesInput, ReadsFile, ReadsFiles, ReadsText, is_input as the_input};
@@ -11,11 +12,12 @@ ghost use Rattle.islec.specs.Writing.{AppendsBeginning};
 ghost use Rattle.islec.specs.declared.status.Status.{Status};
 ghost use Rattle.islec.specs.declared.program.Unbegun.TheVariants.{Memory};
 
-use crate::cause::{Cause, cause_words};
-use crate::line::{Job, Line, LineFault, line_of};
+use crate::cause::{Cause, cause_words, write_unread};
+use crate::disk::Disk;
+use crate::line::{Job, Line, LineFault, Misuse, line_of};
 use crate::perform::perform;
-use crate::serve::{ServeFault, write_text};
-use crate::sources::{Disk, ReadFault, Sources};
+use crate::serve::write_text;
+use crate::sources::{FileFault, Sources, Targets};
 use crate::status::{Status, out_of_memory};
 use std::alloc::{AllocError, AllocFailed, Global};
 use std::env::Env;
@@ -28,6 +30,8 @@ use std::{env, io};
 enum Unbegun {
     /// The words are no command, or ask for help or the version.
     Usage(clap::Error),
+    /// Options of `fmt` that don't go together.
+    Misused(Misuse),
     /// A word isn't UTF-8.
     NotText,
     /// The file of this name can't be read or isn't UTF-8, for a cause in these words.
@@ -57,6 +61,7 @@ impl From<LineFault> for Unbegun {
     fn from(fault: LineFault) -> Unbegun {
         match fault {
             LineFault::Usage(error) => Unbegun::Usage(error),
+            LineFault::Misuse(misuse) => Unbegun::Misused(misuse),
             LineFault::Memory(_) => Unbegun::Memory,
         }
     }
@@ -82,10 +87,10 @@ pub fn run<R: Env + Files + Input + Print + AllocGlobal>(rt: &R) -> u8
     };
     match read_words(rt) {
         Ok(words) => {
-            let sources = Disk { rt };
+            let mut disk = Disk { rt };
             command(
                 rt.alloc(),
-                &sources,
+                &mut disk,
                 words.as_slice(),
                 &mut input,
                 &mut output,
@@ -97,18 +102,18 @@ pub fn run<R: Env + Files + Input + Print + AllocGlobal>(rt: &R) -> u8
 
 /// Reads the files that words name, all before anything is compiled, does the job that they say, and gives the exit status; or tells why it can't
 /// begin. A file named `-` is the input, where that has no queries.
-pub fn command<S: Sources, I: BufRead, W: Write>(
+pub fn command<D: Sources + Targets, I: BufRead, W: Write>(
     alloc: Global,
-    sources: &S,
+    disk: &mut D,
     words: &[String],
     input: &mut I,
     output: &mut W,
 ) -> u8
-    ensures ends { EndsCommand (S.gives sources.now) (map string_bytes words.now) (I.remaining input.old) (I.remaining input.new)
-        (W.contents output.old) (W.contents output.new) result }
+    ensures ends { EndsCommand (D.gives disk.old) (map string_bytes words.now) (I.remaining input.old) (I.remaining input.new)
+        (W.contents output.old) (W.contents output.new) (D.replaced disk.old) (D.replaced disk.new) result }
 {
-    match begin(alloc, sources, words, input) {
-        Ok(Begun { job, texts, world }) => perform(alloc, job, texts, world, input, output),
+    match begin(alloc, disk, words, input) {
+        Ok(Begun { job, texts, world }) => perform(alloc, job, texts, world, disk, input, output),
         Err(unbegun) => tell(unbegun, output).code(),
     }
 }
@@ -235,8 +240,8 @@ fn read_text<S: Sources>(
 {
     match sources.read(alloc, name.as_str()) {
         Ok(bytes) => text_of(alloc, name, bytes),
-        Err(ReadFault::Fails(kind)) => Err(unread(alloc, name, Cause::Fails(kind))),
-        Err(ReadFault::Memory) => Err(Unbegun::Memory),
+        Err(FileFault::Fails(kind)) => Err(unread(alloc, name, Cause::Fails(kind))),
+        Err(FileFault::Memory) => Err(Unbegun::Memory),
     }
 }
 
@@ -272,6 +277,7 @@ fn tell<W: Write>(unbegun: Unbegun, output: &mut W) -> Status
     let (written, status) = match unbegun {
         Unbegun::Usage(error) if error.use_stderr() => (write!(output, "{error}"), Status::Usage),
         Unbegun::Usage(error) => (write!(output, "{error}"), Status::AllWell),
+        Unbegun::Misused(misuse) => return tell_misuse(misuse, output),
         Unbegun::NotText => {
             let written = output.write_all(b"error: a word of the command line isn't UTF-8\n");
             (written, Status::Usage)
@@ -296,23 +302,24 @@ fn cannot_read<W: Write>(name: &str, cause: &str, output: &mut W) -> Status
     Status::InputOutput
 }
 
-// Writes the lines that tell it, or a beginning of them where a write fails.
-fn write_unread<W: Write>(name: &str, cause: &str, output: &mut W) -> Result<(), ServeFault>
-    ensures ok { OnOk result (Appends (W.contents output.old) (W.contents output.new) (unread_lines name.now cause.now)) }
-    ensures err { OnErr result (AppendsBeginning (W.contents output.old) (W.contents output.new) (unread_lines name.now cause.now)) }
-    ensures fault { IfErr result (λ fault. fault ≡ ServeFault.Write) }
+// Tells why options of `fmt` don't go together, and gives the exit status.
+fn tell_misuse<W: Write>(misuse: Misuse, output: &mut W) -> Status
+    ensures told { (result ≡ Status.InputOutput)
+        ⊎ ((result ≡ Status.Usage) × Appends (W.contents output.old) (W.contents output.new) (misuse_text misuse)) }
 {
-    write_line(output, "cannot read ", name)?;
-    write_line(output, "  ", cause)
+    match write_text(output, misuse_line(misuse)) {
+        Ok(()) => Status::Usage,
+        Err(_) => Status::InputOutput,
+    }
 }
 
-// Writes a line of two parts, or a beginning of it where a write fails.
-fn write_line<W: Write>(output: &mut W, first: &str, second: &str) -> Result<(), ServeFault>
-    ensures ok { OnOk result (Appends (W.contents output.old) (W.contents output.new) (line_of_two first.now second.now)) }
-    ensures err { OnErr result (AppendsBeginning (W.contents output.old) (W.contents output.new) (line_of_two first.now second.now)) }
-    ensures fault { IfErr result (λ fault. fault ≡ ServeFault.Write) }
+// The line that tells it.
+fn misuse_line(misuse: Misuse) -> &'static str
+    ensures { result.now ≡ misuse_text misuse }
 {
-    write_text(output, first)?;
-    write_text(output, second)?;
-    write_text(output, "\n")
+    match misuse {
+        Misuse::Loses => "error: --diff and --write need --keep, so that nothing is lost\n",
+        Misuse::WritesAndTells => "error: --write can't be used with --check or --diff\n",
+        Misuse::WritesInput => "error: standard input can't be written in place\n",
+    }
 }

@@ -1,17 +1,17 @@
-//! Where the files of a command are read.
-ghost use Rattle.std.specs.Prelude.{List, Result, Ok, IfOk, IfErr, ℕ, ⊤};
+//! Where the files of a command are read, and put in their place anew.
+ghost use Rattle.std.specs.Prelude.{◌≡◌, [], ◌∷◌, List, Option, Result, Ok, IfOk, IfErr, OnOk, OnErr, ℕ};
 ghost use Rattle.std.specs.declared.io.ErrorKind.{ErrorKind as FaultKind};
+ghost use Rattle.isle_ast.specs.Positions.Files.{SourceFile};
 ghost use Rattle.islec.specs.Inputs.{MayFail};
+ghost use Rattle.islec.specs.Outputs.{Puts};
 
 use std::alloc::Global;
-use std::fs;
 use std::io::ErrorKind;
-use std::rt::Files;
 
-/// Why a file is not read.
+/// Why a file is not read, or not put in its place.
 #[derive(Clone, Copy)]
-pub enum ReadFault {
-    /// Opening or reading it fails with an error of this kind.
+pub enum FileFault {
+    /// Opening, reading or writing it fails with an error of this kind.
     Fails(ErrorKind),
     Memory,
 }
@@ -22,25 +22,18 @@ pub trait Sources {
     ghost gives: { Self → List ℕ → Result (List ℕ) FaultKind → Type 0 };
 
     /// The bytes of the file of a name.
-    fn read(&self, alloc: Global, name: &str) -> Result<Vec<u8>, ReadFault>
+    fn read(&self, alloc: Global, name: &str) -> Result<Vec<u8>, FileFault>
         ensures bytes { IfOk result (λ bytes. gives self.now name.now (Ok bytes.items)) }
         ensures fails { IfErr result (MayFail (gives self.now name.now)) };
 }
 
-/// The files of the machine. No clause says what they hold: that is what the operating system tells.
-#[derive(Drop)]
-pub struct Disk<'a, R> {
-    pub rt: &'a R,
-}
+/// What puts texts in the place of files.
+pub trait Targets {
+    /// the names and the texts of the files that were put in place, one after another, where that is known
+    ghost replaced: { Self → Option (List SourceFile) };
 
-impl<R: Files + AllocGlobal> Sources for Disk<'_, R> {
-    ghost gives = { λ _ _ _. ⊤ };
-
-    fn read(&self, _alloc: Global, name: &str) -> Result<Vec<u8>, ReadFault> {
-        match fs::read(self.rt, name) {
-            Ok(bytes) => Ok(bytes),
-            Err(error) if error.kind() == ErrorKind::OutOfMemory => Err(ReadFault::Memory),
-            Err(error) => Err(ReadFault::Fails(error.kind())),
-        }
-    }
+    /// Puts a text in the place of the file of a name. Where that fails the file is as it was.
+    fn replace(&mut self, alloc: Global, name: &str, text: &str) -> Result<(), FileFault>
+        ensures put { OnOk result (Puts (replaced self.old) (replaced self.new) (record { name = name.now; text = text.now } ∷ [])) }
+        ensures stays { OnErr result (replaced self.new ≡ replaced self.old) };
 }

@@ -17,12 +17,12 @@ pub measured_first : (width : ℕ) (pieces : List Piece) (found : Found) → row
 measured_first width pieces found e = record { done = []; whole = sym (append-nil (map piece_of pieces)); seen = e }
 
 pub measured_more : (width : ℕ) (pieces left front : List Piece) (piece : Piece) (old new : Found) → Measured width pieces left old
-    → left ≡ front ++ piece ∷ [] → rows_seen new ≡ rows_with width piece.kind piece.text.now (rows_seen old) → Measured width pieces front new
+    → left ≡ front ++ piece ∷ [] → rows_seen new ≡ rows_with width piece.kind (piece_of piece).text (rows_seen old) → Measured width pieces front new
 measured_more width pieces left front piece old new m e f = record {
   done = piece_of piece ∷ m.done;
   whole = m.whole ∙ ap (λ ps. ps ++ m.done) (ap (map piece_of) e ∙ map-append piece_of front (piece ∷ []))
       ∙ append_assoc (map piece_of front) (piece_of piece ∷ []) m.done;
-  seen = f ∙ ap (rows_with width piece.kind piece.text.now) m.seen;
+  seen = f ∙ ap (rows_with width piece.kind (piece_of piece).text) m.seen;
 }
 
 pub measured_all : (width : ℕ) (pieces left : List Piece) (found : Found) → Measured width pieces left found → length left < 1

@@ -14,14 +14,15 @@ use Rattle.isle_syntax.specs.declared.lexer.Token.{Token}
 use Rattle.isle_syntax.specs.declared.lexer.Token.TheVariants.{LParen, RParen, Symbol, At}
 use Rattle.isle_syntax.specs.Tokens.TokensOf.{continues_symbol, IsToken, opening, closing, at_sign, integer, word}
 use Rattle.isle_layout.specs.Keeping.TokenValues.{HasTokens, ended, token}
-use Rattle.isle_layout.specs.Keeping.Pieces.{Fragment, Cut, cut_of, piece_cut, break_with, pieces_in, trimmed, before_rest, kind_of_comment, behind_comment}
+use Rattle.isle_layout.specs.Keeping.Pieces.{Fragment, Cut, cut_of, piece_cut, break_with, pieces_in, trimmed, trimmed_lines, before_rest, kind_of_comment, behind_comment}
 use Rattle.isle_layout.specs.Keeping.Rows.{rows_of, stays}
 use Rattle.isle_layout.specs.Keeping.LaidOut.{margin, gap_text, gap_at, levels_at, next_spot, written, start, laid_out, ending}
 use Rattle.isle_syntax.proofs.Tokens.Runs.{run_whole, after_run-step}
 use Rattle.isle_syntax.proofs.Tokens.Comments.{inside_complete}
 use Rattle.isle_layout.proofs.Keeping.Cutting.{pieces_none, pieces_space, pieces_solid}
 use Rattle.isle_layout.proofs.Keeping.Wholes.{may_follow, front_taken, cut_as, opening_lead, run_ended, run_same, run_begun, symbol_ends, word_first, word_lead}
-use Rattle.isle_layout.proofs.Keeping.Wholes.{inside_again, number_again, line_again, line_begun}
+use Rattle.isle_layout.proofs.Keeping.BlockLines.{block_begun}
+use Rattle.isle_layout.proofs.Keeping.Wholes.{inside_any, closed_block, cut_shown, number_again, line_again, line_begun}
 use Rattle.isle_layout.proofs.Keeping.Settling.{AreWhole, are_whole, follows_by, prev_known, opening_byte, closing_byte, at_sign_byte, line_byte, comment_byte}
 use Rattle.isle_layout.proofs.Keeping.Settling.{comment_second, lone_parenthesis}
 
@@ -135,13 +136,13 @@ have_line (b ∷ bs) ts e h = subst (λ c. PiecesHave (c ∷ bs) ts) (sym (line_
 have_block : (bs behind : List ℕ) (ts : List Token) → Inside bs behind → PiecesHave behind ts → PiecesHave (40 ∷ 59 ∷ bs) ts
 have_block bs behind ts i h before =
     let found = inside_complete i in
-    let a = inside_again i in
-    let inner = a.first ∷ a.tail in
-    let cut : cut_of (40 ∷ 59 ∷ bs) ≡ record { kind = Kind.Block; text = 40 ∷ 59 ∷ inner; rest = behind } =
-    cut_as Lead.Comment Kind.Block (40 ∷ 59 ∷ bs) (40 ∷ 59 ∷ inner) behind refl (ap kind_of_comment found) (ap (behind_comment (40 ∷ 59 ∷ bs)) found)
-    (ap (λ t. 40 ∷ 59 ∷ t) a.whole) refl in
-    subst (λ ps. PieceTokens ps ts) (sym (pieces_front before 40 (59 ∷ bs) Kind.Block (40 ∷ 59 ∷ inner) behind refl cut))
-    (skipped (λ rest next m g. comment refl (a.again rest) g) (h Break.Same))
+    let b = closed_block i in
+    let text = trimmed_lines b.inner in
+    let cut : cut_of (40 ∷ 59 ∷ bs) ≡ record { kind = Kind.Block; text = 40 ∷ 59 ∷ text; rest = behind } =
+    cut_shown Lead.Comment Kind.Block (40 ∷ 59 ∷ bs) (40 ∷ 59 ∷ b.inner) (40 ∷ 59 ∷ text) behind refl (ap kind_of_comment found)
+    (ap (behind_comment (40 ∷ 59 ∷ bs)) found) (ap (λ t. 40 ∷ 59 ∷ t) b.whole) (block_begun b.inner) in
+    subst (λ ps. PieceTokens ps ts) (sym (pieces_front before 40 (59 ∷ bs) Kind.Block (40 ∷ 59 ∷ text) behind refl cut))
+    (skipped (λ rest next m g. comment refl (inside_any b.clean.inside rest) g) (h Break.Same))
 
 have_comment : (text behind : List ℕ) (ts : List Token) → lead_of text ≡ Lead.Comment → Inside (after_first (after_first text)) behind
     → PiecesHave behind ts → PiecesHave text ts

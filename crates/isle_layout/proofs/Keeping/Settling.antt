@@ -1,7 +1,7 @@
 -- What is laid out has the same pieces, and is laid out again as it is.
 use Rattle.std.proofs.Common.{◌≡◌, ℕ, zero, suc, List, [], ◌∷◌, ◌++◌, map, Option, Some, None, Bool, true, false, cond, not, refl, sym, ap, subst, ◌∙◌, append_assoc}
 use Rattle.std.proofs.Common.{length, arith}
-use Rattle.std.specs.Prelude.{◌==◌, ◌||◌}
+use Rattle.std.specs.Prelude.{◌==◌, ◌||◌, All}
 use Rattle.std.proofs.lemmas.Bool.Decides.{nat_tests}
 use Rattle.isle_syntax.specs.declared.gap.Lead.{Lead}
 use Rattle.isle_layout.specs.declared.pieces.Kind.{Kind}
@@ -20,10 +20,13 @@ use Rattle.std.proofs.Common.{◌+◌, ◌-◌, IfOk, Result, Ok, Err}
 use Rattle.isle_layout.specs.Keeping.Rows.{rows_of, rows_with, stays, Rows}
 use Rattle.isle_layout.specs.Keeping.LaidOut.{habit_behind, habit_of, gap_by, break_of, margin, gap_text, is_flat, gap_at, levels_at, text_before, next_spot}
 use Rattle.isle_layout.specs.Keeping.LaidOut.{spot_behind, ending, written, start, laid_out, text_of, texts_of}
+use Rattle.isle_layout.specs.Keeping.OneLine.{HasItsText}
+use Rattle.std.proofs.lemmas.List.Elements.{All-nil, All-cons}
 use Rattle.isle_syntax.proofs.Tokens.Runs.{run_whole}
+use Rattle.isle_syntax.proofs.Tokens.Comments.{inside_found}
 use Rattle.isle_layout.proofs.Keeping.Cutting.{pieces_none, pieces_space, pieces_solid}
 use Rattle.isle_layout.proofs.Keeping.Wholes.{is_line, is_closing, may_follow, ends_atom, IsWhole, front_taken, whole_opening, whole_closing, whole_at_sign}
-use Rattle.isle_layout.proofs.Keeping.Wholes.{whole_word, whole_line, whole_block, number_again}
+use Rattle.isle_layout.proofs.Keeping.Wholes.{whole_word, whole_line, closed_block, whole_block, number_again}
 
 -- ---- each piece of a text is cut again as it is
 
@@ -41,9 +44,9 @@ comment_whole bs None e =
     whole_at Lead.Comment Kind.Opening (40 ∷ 59 ∷ bs) (40 ∷ []) (59 ∷ bs) refl (ap kind_of_comment e) (ap (behind_comment (40 ∷ 59 ∷ bs)) e) refl
     whole_opening
 comment_whole bs (Some rest) e =
-    let w = whole_block bs rest e in
-    whole_at Lead.Comment Kind.Block (40 ∷ 59 ∷ bs) (40 ∷ 59 ∷ w.0) rest refl (ap kind_of_comment e) (ap (behind_comment (40 ∷ 59 ∷ bs)) e)
-    (ap (λ t. 40 ∷ 59 ∷ t) w.1) w.2
+    let b = closed_block (inside_found bs rest e) in
+    whole_at Lead.Comment Kind.Block (40 ∷ 59 ∷ bs) (40 ∷ 59 ∷ b.inner) rest refl (ap kind_of_comment e) (ap (behind_comment (40 ∷ 59 ∷ bs)) e)
+    (ap (λ t. 40 ∷ 59 ∷ t) b.whole) (whole_block b.inner b.clean)
 
 pub opening_byte : (b : ℕ) (bs : List ℕ) → lead_of (b ∷ bs) ≡ Lead.Opening → b ≡ 40
 opening_byte b bs e = grind (arith, nat_tests)
@@ -117,6 +120,14 @@ are_whole (suc n) before [] = tt
 are_whole (suc n) before (b ∷ bs) =
     whole_case before b bs (pieces_from n (break_with before b) bs) (pieces_from n Break.Same (cut_of (b ∷ bs)).rest) (is_space b) refl
     (are_whole n (break_with before b) bs) (are_whole n Break.Same (cut_of (b ∷ bs)).rest)
+
+own_each : (ps : List Fragment) → AreWhole ps → All (λ p. HasItsText p.kind p.text) ps
+own_each [] w = All-nil (λ p. HasItsText p.kind p.text)
+own_each (p ∷ ps) w = All-cons (λ q. HasItsText q.kind q.text) p ps w.0.own (own_each ps w.1)
+
+-- the parentheses of a text are so written
+pub own_texts : (text : List ℕ) → All (λ p. HasItsText p.kind p.text) (pieces_of text)
+own_texts text = own_each (pieces_of text) (are_whole (length text) Break.Same text)
 
 -- ---- the gaps keep pieces apart
 

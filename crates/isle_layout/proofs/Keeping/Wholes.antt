@@ -3,6 +3,7 @@ use Rattle.std.proofs.Common.{◌≡◌, ℕ, ◌-◌, ◌≤◌, List, [], ◌�
 use Rattle.std.proofs.Common.{ap, subst, ◌∙◌, append_assoc, length-append, arith}
 use Rattle.std.specs.Prelude.{◌==◌, ◌&&◌}
 use Rattle.std.proofs.lemmas.Bool.Decides.{nat_tests}
+use Rattle.std.proofs.lemmas.List.{append-nil}
 use Rattle.isle_syntax.specs.declared.gap.Lead.{Lead}
 use Rattle.isle_layout.specs.declared.pieces.Kind.{Kind}
 use Rattle.isle_syntax.specs.Tokens.Names.{is_space, ends_symbol}
@@ -12,13 +13,16 @@ use Rattle.isle_syntax.specs.Tokens.TokensOf.{continues_symbol}
 use Rattle.isle_syntax.specs.declared.lexer.Token.{Token}
 use Rattle.isle_syntax.specs.Tokens.Integers.{integer_of, digits_token}
 use Rattle.isle_syntax.specs.Tokens.Finding.{after_comment}
-use Rattle.isle_layout.specs.Keeping.Pieces.{Cut, kind_by, kind_of_comment, after_by, behind_comment, before_rest, text_by, trimmed, is_nothing, cut_of}
+use Rattle.isle_layout.specs.Keeping.Pieces.{Cut, kind_by, kind_of_comment, after_by, behind_comment, before_rest, text_by, trimmed, trimmed_lines, is_nothing, cut_of}
 use Rattle.isle_syntax.proofs.Tokens.Runs.{run_whole, take_front, after_run-step}
-use Rattle.isle_syntax.proofs.Tokens.Comments.{inside_found, inside_complete}
+use Rattle.isle_syntax.proofs.Tokens.Comments.{inside_complete}
+use Rattle.isle_layout.specs.Keeping.OneLine.{HasItsText}
 use Rattle.isle_layout.specs.Keeping.LineEnds.{is_block, ends_clean, is_spaced}
 use Rattle.isle_layout.proofs.Keeping.Cleaning.{clean_step, run_clean, trimmed_clean}
 use Rattle.isle_layout.proofs.Keeping.Spacing.{spaced_step, run_spaced, trimmed_spaced, solid_other}
+use Rattle.isle_layout.proofs.Keeping.Endings.{last_newline, last_spaced}
 use Rattle.isle_layout.proofs.Keeping.Trimming.{trimmed_twice}
+use Rattle.isle_layout.proofs.Keeping.BlockLines.{CleanInside, inner_trimmed, lines_twice}
 use Rattle.isle_layout.proofs.Keeping.Cutting.{piece_shorter}
 
 -- a comment up to the line's end
@@ -66,8 +70,10 @@ pub record IsWhole (kind : Kind) (text : List ℕ) : Type 0 where
   pub solid : is_space first ≡ false
   pub no_semicolon : is_line kind ≡ false → first == 59 ≡ false
   pub closing : is_closing kind ≡ true → first ≡ 41
-  pub clean : is_block kind ≡ false → ends_clean false text ≡ true
+  pub clean : ends_clean false text ≡ true
   pub spaced : is_block kind ≡ false → is_spaced 0 (text ++ 10 ∷ []) ≡ true
+  pub last : last_newline false text ≡ false
+  pub own : HasItsText kind text
   pub cut : (rest : List ℕ) → may_follow kind rest ≡ true → cut_of (text ++ rest) ≡ record { kind = kind; text = text; rest = rest }
 
 -- ---- a text in two
@@ -80,13 +86,18 @@ front_taken text front rest e =
 cut_with : Lead → List ℕ → Cut
 cut_with k text = record { kind = kind_by k text; text = text_by (kind_by k text) (before_rest text (after_by k text)); rest = after_by k text }
 
+pub cut_shown : (k : Lead) (kind : Kind) (text front shown rest : List ℕ) → lead_of text ≡ k → kind_by k text ≡ kind → after_by k text ≡ rest
+    → text ≡ front ++ rest → text_by kind front ≡ shown → cut_of text ≡ record { kind = kind; text = shown; rest = rest }
+unfolding cut_with
+cut_shown k kind text front shown rest e f g w t =
+    let taken : before_rest text (after_by k text) ≡ front = ap (before_rest text) g ∙ front_taken text front rest w in
+    let same : text_by (kind_by k text) (before_rest text (after_by k text)) ≡ shown = (λ i. text_by (f i) (taken i)) ∙ t in
+    ap (λ l. cut_with l text) e ∙ (λ i. record { kind = f i; text = same i; rest = g i })
+
+-- what stands as it is written
 pub cut_as : (k : Lead) (kind : Kind) (text front rest : List ℕ) → lead_of text ≡ k → kind_by k text ≡ kind → after_by k text ≡ rest
     → text ≡ front ++ rest → text_by kind front ≡ front → cut_of text ≡ record { kind = kind; text = front; rest = rest }
-unfolding cut_with
-cut_as k kind text front rest e f g w t =
-    let taken : before_rest text (after_by k text) ≡ front = ap (before_rest text) g ∙ front_taken text front rest w in
-    let same : text_by (kind_by k text) (before_rest text (after_by k text)) ≡ front = (λ i. text_by (f i) (taken i)) ∙ t in
-    ap (λ l. cut_with l text) e ∙ (λ i. record { kind = f i; text = same i; rest = g i })
+cut_as k kind text front rest e f g w t = cut_shown k kind text front front rest e f g w t
 
 -- ---- parentheses and `@`
 
@@ -101,8 +112,10 @@ whole_opening = record {
   solid = refl;
   no_semicolon = λ e. refl;
   closing = λ e. absurd (cc);
-  clean = λ e. refl;
+  clean = refl;
   spaced = λ e. refl;
+  last = refl;
+  own = refl;
   cut = λ rest e. cut_as Lead.Opening Kind.Opening (40 ∷ rest) (40 ∷ []) rest (opening_lead rest e) refl refl refl refl;
 }
 
@@ -114,8 +127,10 @@ whole_closing = record {
   solid = refl;
   no_semicolon = λ e. refl;
   closing = λ e. refl;
-  clean = λ e. refl;
+  clean = refl;
   spaced = λ e. refl;
+  last = refl;
+  own = refl;
   cut = λ rest e. cut_as Lead.Closing Kind.Closing (41 ∷ rest) (41 ∷ []) rest refl refl refl refl refl;
 }
 
@@ -127,8 +142,10 @@ whole_at_sign = record {
   solid = refl;
   no_semicolon = λ e. refl;
   closing = λ e. absurd (cc);
-  clean = λ e. refl;
+  clean = refl;
   spaced = λ e. refl;
+  last = refl;
+  own = tt;
   cut = λ rest e. cut_as Lead.AtSign Kind.AtSign (64 ∷ rest) (64 ∷ []) rest refl refl refl refl refl;
 }
 
@@ -217,8 +234,10 @@ whole_word b bs e =
       solid = word_solid b bs e;
       no_semicolon = λ h. word_no_semicolon b bs e;
       closing = λ h. absurd (cc);
-      clean = λ h. run_clean continues_symbol (b ∷ bs) symbol_solid;
+      clean = run_clean continues_symbol (b ∷ bs) symbol_solid;
       spaced = λ h. run_spaced continues_symbol (b ∷ bs) (λ c e. solid_other c (symbol_solid c e));
+      last = last_spaced (run_of continues_symbol (b ∷ bs)) (run_spaced continues_symbol (b ∷ bs) (λ c e. solid_other c (symbol_solid c e)));
+      own = tt;
       cut = λ rest h. cut_as Lead.Word Kind.Atom (run_of continues_symbol (b ∷ bs) ++ rest) (run_of continues_symbol (b ∷ bs)) rest
           (ap (λ t. lead_of (t ++ rest)) begun ∙ word_lead b bs (run_of continues_symbol bs ++ rest) e) refl
           (run_ended continues_symbol (b ∷ bs) rest (symbol_ends rest h)) refl refl;
@@ -271,8 +290,10 @@ whole_line bs =
       solid = refl;
       no_semicolon = λ h. absurd (cc);
       closing = λ h. absurd (cc);
-      clean = λ h. (trimmed_clean (59 ∷ bs)).0;
+      clean = (trimmed_clean (59 ∷ bs)).0;
       spaced = λ h. trimmed_spaced (59 ∷ bs);
+      last = last_spaced text (trimmed_spaced (59 ∷ bs));
+      own = tt;
       cut = λ rest h. cut_as Lead.Line Kind.Line (text ++ rest) text rest (ap (λ t. lead_of (t ++ rest)) begun) refl
           (trimmed_again in_line (59 ∷ bs) rest ∙ run_stops in_line rest (line_ends rest h)) refl (trimmed_twice (run_of in_line (59 ∷ bs)));
     }
@@ -312,28 +333,46 @@ inside_again (other {b = b} {c = c} {more = more} {rest = rest} e i) =
       again = λ behind. other (ap (mark_of b) (sym same) ∙ e) (sub.again behind);
     }
 
-pub whole_block : (bs rest : List ℕ) → after_comment 0 bs ≡ Some rest
-    → (inner : List ℕ) × (bs ≡ inner ++ rest) × IsWhole Kind.Block (40 ∷ 59 ∷ inner)
-whole_block bs rest e =
-    let a = inside_again (inside_found bs rest e) in
-    let inner = a.first ∷ a.tail in (
-      inner,
-      a.whole,
-      record {
-        first = 40;
-        others = 59 ∷ inner;
-        is = refl;
-        solid = refl;
-        no_semicolon = λ h. refl;
-        closing = λ h. absurd (cc);
-        clean = λ h. absurd (cc);
-        spaced = λ h. absurd (cc);
-        cut = λ more h.
-            let found : after_comment 0 (inner ++ more) ≡ Some more = inside_complete (a.again more) in
-            cut_as Lead.Comment Kind.Block (40 ∷ 59 ∷ (inner ++ more)) (40 ∷ 59 ∷ inner) more refl (ap kind_of_comment found)
-            (ap (behind_comment (40 ∷ 59 ∷ (inner ++ more))) found) refl refl;
-      },
-    )
+pub inside_any : {text : List ℕ} → Inside text [] → (more : List ℕ) → Inside (text ++ more) more
+inside_any i more =
+    let a = inside_again i in
+    subst (λ t. Inside (t ++ more) more) (sym (a.whole ∙ ap (λ t. a.first ∷ t) (append-nil a.tail))) (a.again more)
+
+-- a comment that is closed: what stands in it, and that it is closed there without the white space at its lines' ends
+pub record ClosedBlock (bs rest : List ℕ) : Type 0 where
+  pub inner : List ℕ
+  pub whole : bs ≡ inner ++ rest
+  pub clean : CleanInside (trimmed_lines inner) []
+
+pub closed_block : {bs rest : List ℕ} → Inside bs rest → ClosedBlock bs rest
+closed_block i =
+    let a = inside_again i in
+    record {
+      inner = a.first ∷ a.tail;
+      whole = a.whole;
+      clean = inner_trimmed (subst (λ t. Inside (a.first ∷ t) []) (append-nil a.tail) (a.again []));
+    }
+
+pub whole_block : (inner : List ℕ) → CleanInside (trimmed_lines inner) [] → IsWhole Kind.Block (trimmed_lines (40 ∷ 59 ∷ inner))
+unfolding trimmed_lines
+whole_block inner k =
+    let text = trimmed_lines inner in
+    record {
+      first = 40;
+      others = 59 ∷ text;
+      is = refl;
+      solid = refl;
+      no_semicolon = λ h. refl;
+      closing = λ h. absurd (cc);
+      clean = k.clean;
+      spaced = λ h. absurd (cc);
+      last = k.last false;
+      own = tt;
+      cut = λ more h.
+          let found : after_comment 0 (text ++ more) ≡ Some more = inside_complete (inside_any k.inside more) in
+          cut_as Lead.Comment Kind.Block (40 ∷ 59 ∷ (text ++ more)) (40 ∷ 59 ∷ text) more refl (ap kind_of_comment found)
+          (ap (behind_comment (40 ∷ 59 ∷ (text ++ more))) found) refl (ap (λ t. 40 ∷ 59 ∷ t) (lines_twice inner));
+    }
 
 -- ---- integers
 
@@ -507,8 +546,10 @@ number_whole b bs others e again clean spaced = record {
   solid = number_solid b bs e;
   no_semicolon = λ h. number_no_semicolon b bs e;
   closing = λ h. absurd (cc);
-  clean = λ h. clean;
+  clean = clean;
   spaced = λ h. spaced;
+  last = last_spaced (b ∷ others) spaced;
+  own = tt;
   cut = λ rest h. cut_as Lead.Number Kind.Atom (b ∷ (others ++ rest)) (b ∷ others) rest
       (number_lead b bs (others ++ rest) e) refl (again rest h) refl refl;
 }

@@ -174,10 +174,10 @@ start = record { broken = 0; flat = 0; prev = None }
 abbrev pub laid_out : ℕ → List ℕ → List ℕ
 laid_out width text = written width start (pieces_of text)
 
--- a piece's text as it is written, whatever stands before it
+-- a piece's text, whatever stands before it
 abbrev pub text_of : Fragment → List ℕ
 text_of piece = piece.text
 
--- the tokens and comments of a text as they are written
+-- the texts of a text's tokens and comments, in order
 abbrev pub texts_of : List ℕ → List (List ℕ)
 texts_of text = map text_of (pieces_of text)

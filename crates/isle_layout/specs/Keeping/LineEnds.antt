@@ -1,4 +1,4 @@
--- White space at the ends of lines.
+-- White space at the ends of lines, newlines in a row, and the newline at the end.
 use Rattle.std.specs.Prelude.{◌≡◌, ℕ, ◌+◌, List, [], ◌∷◌, ◌++◌, Bool, true, false, cond, ◌&&◌, ◌==◌, nat_lt, not}
 use Rattle.isle_layout.specs.declared.pieces.Kind.{Kind}
 use Rattle.isle_syntax.specs.Tokens.Names.{is_space}
@@ -18,11 +18,6 @@ is_block Kind.AtSign = false
 is_block Kind.Atom = false
 is_block Kind.Line = false
 
--- no comment between `(;` and `;)` has white space at a line's end
-abbrev pub HaveCleanBlocks : List Fragment → Type 0
-HaveCleanBlocks [] = Unit {0}
-HaveCleanBlocks (p ∷ ps) = (is_block p.kind ≡ true → ends_clean false p.text ≡ true) × HaveCleanBlocks ps
-
 -- at most one blank line stands between others, and at most one newline at the end; the number is of the newlines directly before
 abbrev pub is_spaced : ℕ → List ℕ → Bool
 is_spaced newlines [] = nat_lt newlines 2
@@ -32,3 +27,16 @@ is_spaced newlines (b ∷ bs) = cond (b == 10) (nat_lt newlines 2 && is_spaced (
 abbrev pub HaveSpacedBlocks : List Fragment → Type 0
 HaveSpacedBlocks [] = Unit {0}
 HaveSpacedBlocks (p ∷ ps) = (is_block p.kind ≡ true → is_spaced 0 (p.text ++ 10 ∷ []) ≡ true) × HaveSpacedBlocks ps
+
+-- a newline is the last of some bytes
+abbrev pub EndsInNewline : List ℕ → Type 0
+EndsInNewline bytes = (front : List ℕ) × (bytes ≡ front ++ 10 ∷ [])
+
+-- a newline is the last of some bytes, and no other stands directly before it
+abbrev pub EndsInOneNewline : List ℕ → Type 0
+EndsInOneNewline bytes = (front : List ℕ) × (bytes ≡ front ++ 10 ∷ []) × ¬ (EndsInNewline front)
+
+-- the layout of these pieces ends in one newline, and is empty where there are none
+abbrev pub IsEnded : List Fragment → List ℕ → Type 0
+IsEnded [] out = out ≡ []
+IsEnded (piece ∷ pieces) out = EndsInOneNewline out

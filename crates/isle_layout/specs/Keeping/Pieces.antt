@@ -1,5 +1,5 @@
--- The pieces of a text: its tokens and its comments, as they are written.
-use Rattle.std.specs.Prelude.{ℕ, zero, suc, ◌-◌, List, [], ◌∷◌, length, take, Bool, true, false, cond, ◌&&◌, ◌==◌, Option, Some, None}
+-- The pieces of a text: its tokens as they are written, and its comments without the white space at their lines' ends.
+use Rattle.std.specs.Prelude.{ℕ, zero, suc, ◌-◌, List, [], ◌∷◌, length, take, Bool, true, false, cond, ◌&&◌, ◌==◌, not, Option, Some, None}
 use Rattle.isle_syntax.specs.declared.gap.Lead.{Lead}
 use Rattle.isle_layout.specs.declared.pieces.Kind.{Kind}
 use Rattle.isle_layout.specs.declared.pieces.Break.{Break}
@@ -10,15 +10,11 @@ use Rattle.isle_syntax.specs.Tokens.Integers.{after_integer}
 use Rattle.isle_syntax.specs.Tokens.TokensOf.{continues_symbol}
 use Rattle.isle_syntax.specs.Tokens.Finding.{after_comment}
 
--- a piece as contracts see it: what it is, as it is written, and the newlines before it
+-- a piece as contracts see it: what it is, its text, and the newlines before it
 pub record Fragment : Type 0 where
   pub kind : Kind
   pub text : List ℕ
   pub before : Break
-
--- a piece of the program
-abbrev pub piece_of : Piece → Fragment
-piece_of p = record { kind = p.kind; text = p.text.now; before = p.before }
 
 -- one newline more
 abbrev pub one_more : Break → Break
@@ -86,14 +82,36 @@ unfoldable pub trimmed : List ℕ → List ℕ
 trimmed [] = []
 trimmed (b ∷ bs) = cond (is_space b && is_nothing (trimmed bs)) [] (b ∷ trimmed bs)
 
--- a piece's text, of what is written up to what follows it
+-- white space that is no newline
+abbrev pub is_blank : ℕ → Bool
+is_blank b = is_space b && not (b == 10)
+
+-- whether a newline begins a text
+abbrev pub begins_newline : List ℕ → Bool
+begins_newline [] = false
+begins_newline (b ∷ bs) = b == 10
+
+-- a byte before a text, but for white space directly before a newline
+abbrev pub trimmed_before : ℕ → List ℕ → List ℕ
+trimmed_before b text = cond (is_blank b && begins_newline text) text (b ∷ text)
+
+-- a text without the white space directly before its newlines
+unfoldable pub trimmed_lines : List ℕ → List ℕ
+trimmed_lines [] = []
+trimmed_lines (b ∷ bs) = trimmed_before b (trimmed_lines bs)
+
+-- a piece's text, of what is written up to what follows it: comments are without the white space at their lines' ends
 abbrev pub text_by : Kind → List ℕ → List ℕ
 text_by Kind.Line written = trimmed written
 text_by Kind.Opening written = written
 text_by Kind.Closing written = written
 text_by Kind.AtSign written = written
 text_by Kind.Atom written = written
-text_by Kind.Block written = written
+text_by Kind.Block written = trimmed_lines written
+
+-- a piece of the program
+abbrev pub piece_of : Piece → Fragment
+piece_of p = record { kind = p.kind; text = text_by p.kind p.text.now; before = p.before }
 
 -- a piece at the front of a text, and what follows it
 pub record Cut : Type 0 where

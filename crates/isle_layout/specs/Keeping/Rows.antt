@@ -1,5 +1,5 @@
 -- Which lists of pieces stay on one line.
-use Rattle.std.specs.Prelude.{ℕ, ◌-◌, List, [], ◌∷◌, ◌++◌, length, take, Bool, true, false, ◌||◌, ◌&&◌, ◌==◌, not, Option, Some}
+use Rattle.std.specs.Prelude.{ℕ, ◌-◌, List, [], ◌∷◌, ◌++◌, length, take, Bool, true, false, ◌||◌, ◌&&◌, ◌==◌, not, if◌then◌else◌, Option, Some, None}
 use Rattle.std.specs.List.{list_any, slice_index_or}
 use Rattle.std.specs.Option.{is_some}
 use Rattle.std.specs.Fmt.{char_count}
@@ -37,6 +37,10 @@ row_behind width item breaks row = record {
 abbrev pub has_newline : List ℕ → Bool
 has_newline bytes = list_any (λ b. b == 10) bytes
 
+-- how long a comment between `(;` and `;)` is on one line; it has no length where it has more than one line
+abbrev pub block_length : ℕ → List ℕ → Option ℕ
+block_length width text = if has_newline text then None else within width (char_count text)
+
 -- how long a list is on one line, by how many items it has and their length with a space behind each
 abbrev pub length_of_list : ℕ → Count → Option ℕ → Option ℕ
 length_of_list width Count.Zero items = within width 2
@@ -72,8 +76,8 @@ rows_with width Kind.Opening text rows = record {
 }
 rows_with width Kind.AtSign text rows = record rows { here = row_behind width (within width (char_count text)) false rows.here }
 rows_with width Kind.Atom text rows = record rows { here = row_behind width (within width (char_count text)) false rows.here }
-rows_with width Kind.Line text rows = record rows { here = row_behind width (within width (char_count text)) true rows.here }
-rows_with width Kind.Block text rows = record rows { here = row_behind width (within width (char_count text)) (has_newline text) rows.here }
+rows_with width Kind.Line text rows = record rows { here = row_behind width None true rows.here }
+rows_with width Kind.Block text rows = record rows { here = row_behind width (block_length width text) (has_newline text) rows.here }
 
 -- the rows of pieces
 abbrev pub rows_of : ℕ → List Fragment → Rows

@@ -1,8 +1,9 @@
 use Rattle.std.proofs.Common.{false, ◌≡◌, ◌∙◌, ap, sym, subst, string_bytes, IfOk, rules}
+use Rattle.isle_layout.specs.Keeping.Pieces.{pieces_of}
 use Rattle.isle_layout.specs.Keeping.LaidOut.{laid_out, texts_of}
 use Rattle.isle_layout.specs.Keeping.TokenValues.{HasTokens}
-use Rattle.isle_layout.specs.Keeping.LineEnds.{ends_clean, is_spaced}
-use Rattle.isle_layout.proofs.Keeping.CleanLines.{laid_out_clean, laid_out_spaced}
+use Rattle.isle_layout.specs.Keeping.LineEnds.{ends_clean, is_spaced, IsEnded}
+use Rattle.isle_layout.proofs.Keeping.CleanLines.{laid_out_clean, laid_out_spaced, laid_out_ended}
 use Rattle.isle_layout.proofs.Keeping.SameTokens.{same_tokens}
 use Rattle.isle_layout.proofs.Keeping.Settling.{same_texts, laid_out_twice, ok_then}
 use Rattle.isle_layout.proofs.layout.lay_out.Goals as goal
@@ -28,9 +29,14 @@ returns-clause-tokens c =
 pub returns-clause-clean : goal.returns-clause-clean
 returns-clause-clean c =
     ok_then c.write_pieces.result (λ out. string_bytes out ≡ laid_out c.args.width c.args.text.now) _ (is_laid_out c)
-    (λ out e h. ap (ends_clean false) e ∙ laid_out_clean c.args.width c.args.text.now h)
+    (λ out e. ap (ends_clean false) e ∙ laid_out_clean c.args.width c.args.text.now)
 
 pub returns-clause-spaced : goal.returns-clause-spaced
 returns-clause-spaced c =
     ok_then c.write_pieces.result (λ out. string_bytes out ≡ laid_out c.args.width c.args.text.now) _ (is_laid_out c)
     (λ out e h. ap (is_spaced 0) e ∙ laid_out_spaced c.args.width c.args.text.now h)
+
+pub returns-clause-ends : goal.returns-clause-ends
+returns-clause-ends c =
+    ok_then c.write_pieces.result (λ out. string_bytes out ≡ laid_out c.args.width c.args.text.now) _ (is_laid_out c)
+    (λ out e. subst (IsEnded (pieces_of c.args.text.now)) (sym e) (laid_out_ended c.args.width c.args.text.now))

@@ -21,7 +21,7 @@ pub rest-preserved : goal.rest-preserved
 rest-preserved c =
     let e = sym c.as_bytes.ensures.value ∙ c.in-Some.ensures in (
       (cut_utf8 c.rest.rest.now c.cut-kind.result.2.now c.rest.invariant.0 c.cut-kind.ensures.rest).utf8,
-      piece_kept _ _ _ (record { kind = c.cut-kind.result.0; text = c.cut-kind.result.1.now; before = c.rest.before }) c.in-Some.first
+      piece_kept _ _ _ (piece_of (record { kind = c.cut-kind.result.0; text = c.cut-kind.result.1; before = c.rest.before })) c.in-Some.first
           c.in-Some.field-0-1.now c.rest.rest.now c.cut-kind.result.2.now e (sym c.is_space.ensures ∙ c.if-is_space.false)
           (ap (map piece_of) c.in_ok-push.ensures.items ∙ map-append piece_of c.rest.found.items _)
           (λ i. record { kind = c.cut-kind.ensures.kind i; text = c.cut-kind.ensures.text i; before = c.rest.before })

@@ -1,6 +1,7 @@
 use Rattle.std.proofs.Common.{refl, sym, true≢false, codes, map, subst}
+use Rattle.std.proofs.lemmas.Result.{IfOk-weaker}
 use Rattle.clap.specs.Words.{found_of, rows_of}
-use Rattle.islec.proofs.CommandLemmas.{EntersOne, as_islec, blocks_fills, check_fills, fmt_fills, met_rows, none_met, parses, reads_line, refused, run_fills}
+use Rattle.islec.proofs.CommandLemmas.{EntersOne, as_islec, blocks_fills, check_fills, fmt_fills, met_rows, misuse_refuses, none_met, parses, reads_line, refused, run_fills}
 use Rattle.islec.proofs.line.line_of.Goals as goal
 
 -- no fault, but what is found in the words
@@ -80,7 +81,16 @@ returns-clause-reads g c =
     let parsed = parses c.in_ok-command.command words m c.in_ok-command.ensures c.in_ok-matches.ensures.ok.2 c.in_ok-matches.ensures.kinds in
     let rows = rows_of (found_of c.in-Some-subcommand_matches-3.fmt.now) in
     let met = met_rows m (codes "fmt") rows (c.in-Some-subcommand_matches-3.ensures.found.0 refl) c.in-Some-subcommand_matches-3.ensures.rows in
-    reads_line words m (codes "fmt") rows c.in_ok-fmt_line.field-0 parsed met c.in_ok-fmt_line.ensures.says
+    IfOk-weaker c.fmt_line.result _ _ (λ line says. reads_line words m (codes "fmt") rows line parsed met says) c.fmt_line.ensures.says
+
+pub returns-clause-refused : goal.returns-clause-refused
+returns-clause-refused g c =
+    let m = c.in_ok-matches.matches in
+    let words = map g.S.AsStr.text c.args.words.now in
+    let parsed = parses c.in_ok-command.command words m c.in_ok-command.ensures c.in_ok-matches.ensures.ok.2 c.in_ok-matches.ensures.kinds in
+    let rows = rows_of (found_of c.in-Some-subcommand_matches-3.fmt.now) in
+    let met = met_rows m (codes "fmt") rows (c.in-Some-subcommand_matches-3.ensures.found.0 refl) c.in-Some-subcommand_matches-3.ensures.rows in
+    misuse_refuses words m rows c.fmt_line.result parsed met c.fmt_line.ensures.misused
 
 pub unreachable-requires : goal.unreachable-requires
 unreachable-requires g c =

@@ -1,0 +1,9 @@
+mod Basics
+mod Cases
+mod Choosing
+mod Resting
+mod Samples
+mod Steps
+mod Tables
+mod Trees
+mod Worlds
