@@ -324,6 +324,38 @@ def mixed_world(number):
     return "".join(entries)
 
 
+def truths(number, rules):
+    """So many rules, in the order of their priorities, each of which wants three of so many truth values."""
+    chance = random.Random(1)
+    parts = [f"(decl f ({'bool ' * number}) u8)\n"]
+    for i in range(rules):
+        wanted = dict.fromkeys(chance.sample(range(number), 3))
+        pattern = " ".join(chance.choice(("true", "false")) if place in wanted else "_" for place in range(number))
+        parts.append(f"(rule {i} (f {pattern}) 1)\n")
+    return "".join(parts)
+
+
+def missing_calls():
+    """Prints what it takes to tell which calls have no rule."""
+    whole = lambda it: it.startswith("accepted\n")
+    texts = (("2,000 rules of one term", typed_rules(2_000)), ("2,000 rules of 100 terms", backend(2_000)))
+    for title, text in texts:
+        with files_of(text) as [path]:
+            rounds, _ = in_rounds([([ISLEC, "check", path], path, whole), ([ISLEC, "check", "--missing", "--partial", path], path, whole)])
+        check, told = middle(row[0] for row in rounds), middle(row[1] for row in rounds)
+        part = max(middle((missing - alone) / alone for alone, missing in rounds), 0)
+        print(f"{title}: check --missing takes {held(part, 1, 2)} times more than check ({told:.2f} s and {check:.2f} s) (at most 1)")
+    ends = lambda it: it == "accepted\nf: not decided within 10000000 steps\n"
+    covered = lambda it: it == "accepted\nno call is ever stuck\n"
+    for title, text, most, right in (("4,000 constants", constants(4_000), 1, whole), ("600 rules of 100 truth values", truths(100, 600), 5, covered),
+                                     ("450 rules of 100 truth values, which it doesn't decide", truths(100, 450), 5, ends)):
+        with files_of(text) as [path]:
+            seconds, _, printed, _ = min(timed([ISLEC, "check", "--missing", path], path) for _ in range(3))
+        if not right(printed):
+            sys.exit(f"{title}: {printed[:80]}")
+        print(f"{title}: check --missing takes {held(seconds, most, 2)} s (at most {most})")
+
+
 def measure_trees(title, bench, text, sets):
     """Prints what rule sets of a text take, and what they take with their trees."""
     measure(f"check {title}", [*bench, "sets"], text, lambda it: it == f"{sets}\n")
@@ -377,6 +409,7 @@ def main():
         measure_run(f"read a world of {number:,} entries", HOST, mixed_world(number), "", lambda it: it == "")
     worlds_of_rules(bench)
     queries_of_a_backend()
+    missing_calls()
     text, _ = rules(4_000_000)
     for width in (20, 80):
         measure(f"format 4 MB at {width}", [islec, "fmt", "--width", str(width)], text, lambda it: it.startswith("(rule"))

@@ -12,7 +12,9 @@ doubled, or put in from another program. `check`, `fmt`, `run` and `run --plain`
 - both roads refuse the same queries, and where both answer one the answer and its effects are the same, if each type has a value;
 - what `fmt` prints is printed again to itself, and `check` says the same of it but for places;
 - `fmt --keep` prints a text exactly where `fmt` does; it changes nothing but white space, prints what it printed to itself, and `fmt` and `check` say
-  the same of that as of the text; `--check` names the text exactly where it isn't its print, and what `--diff` tells makes the one of the other.
+  the same of that as of the text; `--check` names the text exactly where it isn't its print, and what `--diff` tells makes the one of the other;
+- where each type has a value no query is stuck at a term of which `check --missing` tells nothing, nor at any where it says so, and a query that is
+  as it says that a call is missing is answered by no value, and by none only where its term is partial.
 
 Prints each fault with the number of its text, and last how many texts there were and how they ended. With COUNT 1 the
 files of the text are printed. Exits with 1 where there was a fault.
@@ -29,6 +31,7 @@ import subprocess
 import sys
 import tempfile
 
+import missing
 from commands import bytes_of, text_of
 
 ROOT = os.path.join(os.path.dirname(os.path.abspath(__file__)), os.pardir)
@@ -389,11 +392,40 @@ def look(binary, made, path):
         compare_roads(replies(by_trees), replies(by_rules), b"some type has no value" not in checked.split(b"\n"))
         if any(not reply[-1].startswith(b"refused") for reply in replies(by_trees)):
             ending = "called"
+        if look_at_missing(folder, made, options):
+            ending += ", some call missing"
     look_at_prints(folder, made, status == 0)
     formatted, formatted_status = folder.run("check", "--terms", *names)
     if formatted_status != status or kinds_of(formatted) != kinds_of(checked):
         raise Fault(f"a check says {kinds_of(checked)!r}, and of what is printed {kinds_of(formatted)!r}")
     return ending
+
+
+def look_at_missing(folder, made, options):
+    """How queries are answered of which `check --missing` says whether rules match them. How many were missing calls."""
+    output, _ = folder.run("check", "--missing", "--partial", "--terms", *made.files)
+    output = output.decode()
+    texts = missing.Texts([text.decode() for text in made.files.values()])
+    runnable, calls, undecided = missing.told(output)
+    if not texts.read or "some type has no value" in output.split("\n"):
+        return 0
+    found = [missing.queries_of(texts, call, lines) for call, *lines in calls]
+    found = [(term, query) for term, query in found if query and term in runnable]
+    open_terms = undecided.union(lines[0][1:].split(" ")[0].rstrip(")") for lines in calls)
+    others = [query for term in sorted(runnable) for query in missing.queries_at(texts, term, 20)]
+    given = "\n".join([*(query for _, query in found), *others, ""]).encode()
+    for words in (["run"], ["run", "--plain"]):
+        written, status = folder.run(*words, *options, *made.files, given=given)
+        if status == 1:
+            return 0
+        ends = [reply[-1].decode() for reply in replies(written)]
+        for (term, query), end in zip(found, ends):
+            if not end.startswith(UNANSWERED) and (end != "none" or not texts.terms[term][1]):
+                raise Fault(f"{words}: {query} is told to have no rule, and is {end!r}")
+        stuck = {end[len("stuck ("):].split(" ")[0].rstrip(")") for end in ends if end.startswith("stuck (")}
+        if not stuck <= open_terms or stuck and "no call is ever stuck" in output.split("\n"):
+            raise Fault(f"{words}: stuck at {sorted(stuck)}, which are told to be covered")
+    return len(found)
 
 
 def is_text(text):

@@ -1,8 +1,10 @@
--- Tests, and what two demands say of each other.
-use Rattle.std.proofs.Common.{◌≡◌, ◌⊎◌, inl, inr, ℕ, ◌==◌, ◌&&◌, ◌||◌, not, Bool, true, false, refl, sym, ◌∙◌, ap, eqb-true}
+-- Tests, members of lists, and what two demands say of each other.
+use Rattle.std.proofs.Common.{◌≡◌, ◌⊎◌, inl, inr, ℕ, zero, suc, ◌==◌, ◌&&◌, ◌||◌, not, Bool, true, false, List, [], ◌∷◌, Contains, refl, sym, ◌∙◌, ap, subst, arith, eqb-true, eq-eqb}
+use Rattle.std.specs.List.{list_any}
 use Rattle.std.proofs.lemmas.Bool.{eqb-false}
 use Rattle.isle_missing.specs.declared.demand.Demand.{Demand}
 use Rattle.isle_missing.specs.declared.demand.Demand.TheVariants.{Passes, Same}
+use Rattle.isle_missing.specs.Sites.{is_listed}
 use Rattle.isle_missing.specs.Demands.{World, passes, equals}
 use Rattle.isle_missing.specs.Inside.Rows.{same_demand, denies}
 
@@ -58,3 +60,41 @@ pub true_and : (a b : Bool) → a ≡ true → b ≡ true → (a && b) ≡ true
 true_and true true e f = refl
 true_and true false e f = cc
 true_and false b e f = cc
+
+-- ---- members
+
+pub member_head : {X : Type 0} (x : X) (xs : List X) → Contains (x ∷ xs) x
+member_head x xs = (0, omega arith, refl)
+
+pub member_tail : {X : Type 0} (x y : X) (xs : List X) → Contains xs y → Contains (x ∷ xs) y
+member_tail x y xs (k, below, same) = (suc k, omega arith, same)
+
+-- a member passes a test that some member passes, and the other way
+pub any_member : {X : Type 0} (p : X → Bool) (xs : List X) (x : X) → Contains xs x → p x ≡ true → list_any p xs ≡ true
+any_member p [] x m h = absurd (omega (arith, m.1))
+any_member p (y ∷ ys) x (zero, below, same) h = true_or_any (p y) (list_any p ys) (subst (λ z. p z ≡ true) (sym same) h) where
+  true_or_any : (a b : Bool) → a ≡ true → (a || b) ≡ true
+  true_or_any true b e = refl
+  true_or_any false b e = cc
+any_member p (y ∷ ys) x (suc k, below, same) h = any_or_true (p y) (list_any p ys) (any_member p ys x (k, omega arith, same) h) where
+  any_or_true : (a b : Bool) → b ≡ true → (a || b) ≡ true
+  any_or_true true b e = refl
+  any_or_true false b e = e
+
+pub any_found : {X : Type 0} (p : X → Bool) (xs : List X) → list_any p xs ≡ true → (x : X) × Contains xs x × (p x ≡ true)
+any_found p [] h = clash false h refl
+any_found {X} p (y ∷ ys) h = elim (or_holds (p y) (list_any p ys) h) [
+  | inl here ↦ (y, member_head y ys, here)
+  | inr later ↦
+      let r : (x : X) × Contains ys x × (p x ≡ true) = any_found p ys later in
+      (r.0, member_tail y (r.0) ys (r.1), r.2)
+]
+
+-- a listed test is a member, and the other way
+pub listed_member : (ts : List ℕ) (t : ℕ) → is_listed ts t ≡ true → Contains ts t
+listed_member ts t h =
+    let r : (u : ℕ) × Contains ts u × ((u == t) ≡ true) = any_found (λ (u : ℕ). u == t) ts h in
+    subst (λ (u : ℕ). Contains ts u) (eqb-true (r.0) t (r.2)) (r.1)
+
+pub member_listed : (ts : List ℕ) (t : ℕ) → Contains ts t → is_listed ts t ≡ true
+member_listed ts t m = any_member (λ (u : ℕ). u == t) ts t m (eq-eqb t t refl)

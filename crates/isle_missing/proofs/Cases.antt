@@ -1,13 +1,16 @@
 -- Worked cases: rules of two tests, and of two sites that are equal or pass other tests.
-use Rattle.std.proofs.Common.{◌≡◌, ℕ, zero, suc, ◌<◌, List, [], ◌∷◌, true, false, Some, None, refl, arith}
+use Rattle.std.proofs.Common.{◌≡◌, inr, ℕ, zero, suc, List, [], ◌∷◌, true, false, Some, None, Contains, refl, sym, subst, arith}
+use Rattle.isle_missing.specs.declared.demand.Demand.{Demand}
 use Rattle.isle_missing.specs.declared.facts.Fact.{Fact}
+use Rattle.isle_missing.specs.Sites.{Sites}
 use Rattle.isle_missing.specs.Demands.{AreCompared, passes, equals, Fits}
 use Rattle.isle_missing.specs.Inside.Rows.{denies, where_holds, where_fails, apart}
-use Rattle.isle_missing.specs.Inside.Facts.{has_failed, refutes}
+use Rattle.isle_missing.specs.declared.facts.Rest.TheVariants.{Open, Only}
+use Rattle.isle_missing.specs.Inside.Facts.{IsRest, has_failed, refutes}
 use Rattle.isle_missing.specs.Inside.Tables.{Table, is_held, HaveTests}
 use Rattle.isle_missing.specs.Possible.{CanBe}
 use Rattle.isle_missing.specs.Search.{IsExample}
-use Rattle.isle_missing.specs.Sample.{both_rules, two_tests, any_tests, equal_rules, two_truths, two_kinds}
+use Rattle.isle_missing.specs.Sample.{both_rules, two_tests, twice_listed, any_tests, equal_rules, two_truths, two_kinds}
 use Rattle.isle_missing.proofs.Basics.{clash}
 use Rattle.isle_missing.proofs.Steps.{refuted_misses}
 use Rattle.isle_missing.proofs.Tables.{can_be}
@@ -71,6 +74,33 @@ passed_refutes = refl
 passed_keeps : refutes (passes 0 0 ∷ passes 1 1 ∷ []) (passed 1 1) ≡ false
 passed_keeps = refl
 
+-- ---- what is left of tests
+
+-- a test that is listed twice isn't two: where the other has failed it alone is left
+twice_is_one : IsRest twice_listed (failed 0 1 ∷ []) 0 (Only (record { 0 = 0 }))
+twice_is_one = (0 ∷ 0 ∷ 1 ∷ [], refl, others) where
+  others : (t : ℕ) → Contains (0 ∷ 0 ∷ 1 ∷ []) t → (t ≡ 0 → ⊥) → has_failed (passes 0 t) (failed 0 1 ∷ []) ≡ true
+  others t (zero, below, same) other = absurd (other (sym same))
+  others t (suc zero, below, same) other = absurd (other (sym same))
+  others t (suc (suc zero), below, same) other = subst (λ (n : ℕ). has_failed (passes 0 n) (failed 0 1 ∷ []) ≡ true) same refl
+  others t (suc (suc (suc i)), below, same) other = absurd (omega (arith, below))
+
+-- of two that differ neither is left alone
+two_are_two : IsRest twice_listed [] 0 Open
+two_are_two = inr (
+  0 ∷ 0 ∷ 1 ∷ [],
+  refl,
+  record {
+    first = 0;
+    second = 1;
+    differ = λ e. omega (arith, e);
+    first_listed = (0, omega arith, refl);
+    second_listed = (2, omega arith, refl);
+    first_open = refl;
+    second_open = refl;
+  },
+)
+
 -- ---- tables
 
 abbrev table : Table
@@ -100,13 +130,13 @@ both_fail = (can_be any_tests both_rules facts (None ∷ [], refl, have), refute
   have zero = refl
   have (suc s) = refl
 
--- where both tests are all not both fail
+-- where each value passes one of the tests not both fail
 not_both_fail : CanBe two_tests both_rules (failed 0 0 ∷ failed 0 1 ∷ []) → ⊥
 not_both_fail (w, so, fit) = let first : Fits w two_tests (passes 0 0 ∷ []) = fit.0 in none (first.0) where
-  none : (t : ℕ) × (t < 2) × (w.holds (passes 0 t) ≡ true) → ⊥
-  none (zero, below, h) = clash (w.holds (passes 0 0)) h (so.0)
-  none (suc zero, below, h) = clash (w.holds (passes 0 1)) h (so.1.0)
-  none (suc (suc t), below, h) = omega (arith, below)
+  none : (t : ℕ) × Contains (0 ∷ 1 ∷ []) t × (w.holds (passes 0 t) ≡ true) → ⊥
+  none (t, (zero, below, same), h) = clash (w.holds (passes 0 0)) (subst (λ (n : ℕ). w.holds (passes 0 n) ≡ true) (sym same) h) (so.0)
+  none (t, (suc zero, below, same), h) = clash (w.holds (passes 0 1)) (subst (λ (n : ℕ). w.holds (passes 0 n) ≡ true) (sym same) h) (so.1.0)
+  none (t, (suc (suc i), below, same), h) = omega (arith, below)
 
 -- two truth values that are both true aren't unequal
 not_unequal : CanBe two_truths equal_rules (unequal 0 1 ∷ passed 0 1 ∷ passed 1 1 ∷ []) → ⊥
@@ -114,3 +144,20 @@ not_unequal (w, so, fit) =
     let first : Fits w two_truths (equals 0 1 ∷ []) = fit.0 in
     let compare : AreCompared w two_truths 0 1 = first.0 in
     clash (w.holds (equals 0 1)) (compare.single 1 refl (so.1.0) (so.1.1.0)) (so.0)
+
+-- A test that is left out of those which one value passes is taken to be passed by many: two values that pass it may be unequal.
+abbrev half_listed : Sites
+half_listed = record { all = Some (0 ∷ 1 ∷ []); single = 0 ∷ [] } ∷ record { all = Some (0 ∷ 1 ∷ []); single = 0 ∷ [] } ∷ []
+
+abbrev half_rules : List (List Demand)
+half_rules = (equals 0 1 ∷ []) ∷ (passes 0 0 ∷ []) ∷ (passes 1 0 ∷ []) ∷ []
+
+left_out_is_many : IsExample half_listed half_rules (unequal 0 1 ∷ passed 0 1 ∷ passed 1 1 ∷ [])
+left_out_is_many = (can_be half_listed half_rules facts (table, refl, have), refuted_misses facts half_rules refl) where
+  facts : List Fact
+  facts = unequal 0 1 ∷ passed 0 1 ∷ passed 1 1 ∷ []
+
+  have : HaveTests half_listed table
+  have zero = refl
+  have (suc zero) = refl
+  have (suc (suc s)) = refl

@@ -5,5 +5,5 @@ mod Resting
 mod Samples
 mod Steps
 mod Tables
-mod Trees
+pub mod Trees
 mod Worlds

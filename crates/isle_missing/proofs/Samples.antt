@@ -1,5 +1,5 @@
 -- The worked cases are as they are said to be.
-use Rattle.std.proofs.Common.{◌≡◌, ◌≢◌, inl, inr, ℕ, zero, suc, ◌<◌, List, [], ◌∷◌, ◌++◌, Bool, true, false, Some, Contains, refl, sym, ap, subst, arith, ◌∙◌, ◌==◌, eqb-true}
+use Rattle.std.proofs.Common.{◌≡◌, ◌≢◌, ◌⊎◌, inl, inr, ℕ, zero, suc, List, [], ◌∷◌, ◌++◌, Bool, true, false, Some, Contains, refl, sym, ap, subst, arith, ◌∙◌, ◌==◌, eqb-true}
 use Rattle.isle_trees.specs.Got.{Got}
 use Rattle.isle_trees.specs.Rules.{has, one_value, Elem}
 use Rattle.isle_trees.specs.Sample.{same_bool, sample, sample_at, with_call}
@@ -7,18 +7,47 @@ use Rattle.isle_missing.specs.declared.demand.Demand.{Demand}
 use Rattle.isle_missing.specs.declared.demand.Demand.TheVariants.{Passes, Same}
 use Rattle.isle_missing.specs.Sites.{is_single}
 use Rattle.isle_missing.specs.Demands.{World, AreCompared, passes, equals, SomeMatches, Fits}
-use Rattle.isle_missing.specs.Sample.{both_rules, two_tests, any_tests, equal_rules, two_truths, two_kinds, truths, sample_rows, sample_sites}
+use Rattle.isle_missing.specs.Sample.{both_rules, two_tests, twice_listed, any_tests, equal_rules, two_truths, two_kinds, other_rules, other_kinds, truths, sample_rows, sample_sites}
 use Rattle.isle_missing.specs.Search.{MatchesAlways}
-use Rattle.isle_missing.specs.Trees.{AreApart, AreTyped, AreSingle, IsReady, by_parts, StandsFor, Shows}
-use Rattle.isle_missing.proofs.Basics.{clash}
+use Rattle.isle_missing.specs.Trees.{IsNumber, AreApart, AreTyped, AreSingle, IsReady, by_parts, StandsFor, Shows}
+use Rattle.isle_missing.proofs.Basics.{clash, member_head, member_tail}
 
--- two tests that are all are covered
+-- of two tests one passes
+one_of_two : (w : World) (s t u : ℕ) → (k : ℕ) × Contains (t ∷ u ∷ []) k × (w.holds (passes s k) ≡ true)
+    → (w.holds (passes s t) ≡ true) ⊎ (w.holds (passes s u) ≡ true)
+one_of_two w s t u (k, (zero, below, same), h) = inl (subst (λ (n : ℕ). w.holds (passes s n) ≡ true) (sym same) h)
+one_of_two w s t u (k, (suc zero, below, same), h) = inr (subst (λ (n : ℕ). w.holds (passes s n) ≡ true) (sym same) h)
+one_of_two w s t u (k, (suc (suc i), below, same), h) = absurd (omega (arith, below))
+
+-- two tests of which each value passes one are covered
 pub both_match : MatchesAlways two_tests both_rules
-both_match w fit = let first : Fits w two_tests (passes 0 0 ∷ []) = fit.0 in one (first.0) where
-  one : (t : ℕ) × (t < 2) × (w.holds (passes 0 t) ≡ true) → SomeMatches w both_rules
-  one (zero, below, h) = inl (h, tt)
-  one (suc zero, below, h) = inr (inl (h, tt))
-  one (suc (suc t), below, h) = absurd (omega (arith, below))
+both_match w fit = let first : Fits w two_tests (passes 0 0 ∷ []) = fit.0 in elim (one_of_two w 0 0 1 (first.0)) [
+  | inl h ↦ inl (h, tt)
+  | inr h ↦ inr (inl (h, tt))
+]
+
+-- and where one is listed twice
+pub twice_match : MatchesAlways twice_listed both_rules
+twice_match w fit = let first : Fits w twice_listed (passes 0 0 ∷ []) = fit.0 in one (first.0) where
+  one : (t : ℕ) × Contains (0 ∷ 0 ∷ 1 ∷ []) t × (w.holds (passes 0 t) ≡ true) → SomeMatches w both_rules
+  one (t, (zero, below, same), h) = inl (subst (λ (n : ℕ). w.holds (passes 0 n) ≡ true) (sym same) h, tt)
+  one (t, (suc zero, below, same), h) = inl (subst (λ (n : ℕ). w.holds (passes 0 n) ≡ true) (sym same) h, tt)
+  one (t, (suc (suc zero), below, same), h) = inr (inl (subst (λ (n : ℕ). w.holds (passes 0 n) ≡ true) (sym same) h, tt))
+  one (t, (suc (suc (suc i)), below, same), h) = absurd (omega (arith, below))
+
+-- two sites that list different tests
+pub other_match : MatchesAlways other_kinds other_rules
+other_match w fit =
+    let first : Fits w other_kinds (passes 0 0 ∷ []) = fit.0 in
+    let second : Fits w other_kinds (passes 0 1 ∷ passes 1 2 ∷ []) = fit.1.0 in elim (one_of_two w 0 0 1 (first.0)) [
+      | inl h ↦ inl (h, tt)
+      | inr h ↦
+          let after : Fits w other_kinds (passes 1 2 ∷ []) = second.1 h in
+          elim (one_of_two w 1 2 3 (after.0)) [
+            | inl k ↦ inr (inl (h, (k, tt)))
+            | inr k ↦ inr (inr (inl (h, (k, tt))))
+          ]
+    ]
 
 -- a world where nothing holds
 nothing : World
@@ -35,16 +64,14 @@ not_covered covers = none (covers nothing ((tt, λ h. tt), ((tt, λ h. tt), tt))
 
 -- two truth values are equal, or are true and false
 pub equal_match : MatchesAlways two_truths equal_rules
-equal_match w fit = let first : Fits w two_truths (equals 0 1 ∷ []) = fit.0 in by (first.0) (first.0.first) (first.0.second) where
-  by : AreCompared w two_truths 0 1 → (t : ℕ) × (t < 2) × (w.holds (passes 0 t) ≡ true) → (t : ℕ) × (t < 2) × (w.holds (passes 1 t) ≡ true)
-      → SomeMatches w equal_rules
-  by compare (zero, below, p) (zero, under, q) = inl (compare.single 0 refl p q, tt)
-  by compare (zero, below, p) (suc zero, under, q) = inr (inr (inl (p, (q, tt))))
-  by compare (suc zero, below, p) (zero, under, q) = inr (inl (p, (q, tt)))
-  by compare (suc zero, below, p) (suc zero, under, q) = inl (compare.single 1 refl p q, tt)
-  by compare (zero, below, p) (suc (suc t), under, q) = absurd (omega (arith, under))
-  by compare (suc zero, below, p) (suc (suc t), under, q) = absurd (omega (arith, under))
-  by compare (suc (suc t), below, p) other = absurd (omega (arith, below))
+equal_match w fit = let first : Fits w two_truths (equals 0 1 ∷ []) = fit.0 in
+    by (first.0) (one_of_two w 0 0 1 (first.0.first)) (one_of_two w 1 0 1 (first.0.second)) where
+      by : AreCompared w two_truths 0 1 → (w.holds (passes 0 0) ≡ true) ⊎ (w.holds (passes 0 1) ≡ true)
+          → (w.holds (passes 1 0) ≡ true) ⊎ (w.holds (passes 1 1) ≡ true) → SomeMatches w equal_rules
+      by compare (inl p) (inl q) = inl (compare.single 0 refl p q, tt)
+      by compare (inl p) (inr q) = inr (inr (inl (p, (q, tt))))
+      by compare (inr p) (inl q) = inr (inl (p, (q, tt)))
+      by compare (inr p) (inr q) = inl (compare.single 1 refl p q, tt)
 
 -- a world where each site passes the first test, and no two are equal
 abbrev is_first : Demand → Bool
@@ -57,13 +84,11 @@ first_kinds = record { holds = is_first; one = λ s t u p q. eqb-true t 0 p ∙ 
 -- two values of one kind need not be equal
 pub kinds_not_covered : MatchesAlways two_kinds equal_rules → ⊥
 kinds_not_covered covers = none (covers first_kinds ((compared, λ h. tt), (two 1 0, (two 0 1, tt)))) where
-  passes_first : (s : ℕ) → (t : ℕ) × (t < 2) × (first_kinds.holds (passes s t) ≡ true)
-  passes_first s = (0, omega arith, refl)
+  passes_first : (s : ℕ) → (t : ℕ) × Contains (0 ∷ 1 ∷ []) t × (first_kinds.holds (passes s t) ≡ true)
+  passes_first s = (0, member_head 0 (1 ∷ []), refl)
 
   no_single : (t : ℕ) → is_single two_kinds 0 t ≡ true → ⊥
-  no_single zero e = clash false e refl
-  no_single (suc zero) e = clash false e refl
-  no_single (suc (suc t)) e = clash false e refl
+  no_single t e = clash false e refl
 
   compared : AreCompared first_kinds two_kinds 0 1
   compared = record {
@@ -85,23 +110,23 @@ kinds_not_covered covers = none (covers first_kinds ((compared, λ h. tt), (two 
 -- ---- the sample
 
 truths_apart : AreApart sample truths
-truths_apart s zero zero c d x e f p q = refl
-truths_apart s zero (suc zero) c d x e f p q = absurd (mixed c d x e f p q) where
+truths_apart zero zero c d x e f p q = refl
+truths_apart zero (suc zero) c d x e f p q = absurd (mixed c d x e f p q) where
   mixed : (c d x : Bool) → Some false ≡ Some c → Some true ≡ Some d → same_bool c x ≡ true → same_bool d x ≡ true → ⊥
   mixed true d x e f p q = let g : false ≡ true = cc in cc
   mixed false true true e f p q = clash false p refl
   mixed false true false e f p q = clash false q refl
   mixed false false x e f p q = let g : true ≡ false = cc in cc
-truths_apart s (suc zero) zero c d x e f p q = absurd (mixed c d x e f p q) where
+truths_apart (suc zero) zero c d x e f p q = absurd (mixed c d x e f p q) where
   mixed : (c d x : Bool) → Some true ≡ Some c → Some false ≡ Some d → same_bool c x ≡ true → same_bool d x ≡ true → ⊥
   mixed false d x e f p q = let g : true ≡ false = cc in cc
   mixed true false true e f p q = clash false q refl
   mixed true false false e f p q = clash false p refl
   mixed true true x e f p q = let g : false ≡ true = cc in cc
-truths_apart s (suc zero) (suc zero) c d x e f p q = refl
-truths_apart s t (suc (suc u)) c d x e f p q = cc
-truths_apart s (suc (suc t)) zero c d x e f p q = cc
-truths_apart s (suc (suc t)) (suc zero) c d x e f p q = cc
+truths_apart (suc zero) (suc zero) c d x e f p q = refl
+truths_apart t (suc (suc u)) c d x e f p q = cc
+truths_apart (suc (suc t)) zero c d x e f p q = cc
+truths_apart (suc (suc t)) (suc zero) c d x e f p q = cc
 
 alike_truths : (c x y : Bool) → same_bool c x ≡ true → same_bool c y ≡ true → x ≡ y
 alike_truths true true true p q = refl
@@ -147,17 +172,16 @@ first_stands = record {
       let e : passes 1 1 ≡ passes s t = only_member (passes 1 1) (passes s t) m in
       let one : 1 ≡ s = ap site_of e in
       let two : 1 ≡ t = ap test_of e in
-      (true, subst (λ k. truths s k ≡ Some true) two refl, subst (λ k. sample_at 0 k ≡ Some (has true)) one refl);
+      (true, subst (λ k. IsNumber sample truths true k) two (true, refl, λ x. refl), subst (λ k. sample_at 0 k ≡ Some (has true)) one refl);
   joins = λ a b e ne. clash false e refl;
   joined = λ a b m. absurd (differ a b (only_member (passes 1 1) (equals a b) m));
-  shared = λ a b m t. absurd (differ a b (only_member (passes 1 1) (equals a b) m));
   single = single;
   ready = ready;
   both_ready = both_ready;
 } where
-  wants : (s : ℕ) (c : Bool) → sample_at 0 s ≡ Some (has c) → (t : ℕ) × (truths s t ≡ Some c) × Contains (passes 1 1 ∷ []) (passes s t)
+  wants : (s : ℕ) (c : Bool) → sample_at 0 s ≡ Some (has c) → (t : ℕ) × IsNumber sample truths c t × Contains (passes 1 1 ∷ []) (passes s t)
   wants zero c e = cc
-  wants (suc zero) c e = let same : true ≡ c = cc in (1, ap (λ b. Some b) same, (0, omega arith, refl))
+  wants (suc zero) c e = let same : true ≡ c = cc in (1, (true, refl, λ x. ap (λ b. same_bool b x) same), (0, omega arith, refl))
   wants (suc (suc s)) c e = cc
 
   single : (s : ℕ) → sample_at 0 s ≢ Some one_value
@@ -182,7 +206,6 @@ second_stands = record {
   wanted = λ s t m. absurd (no_member (passes s t) m);
   joins = λ a b e ne. clash false e refl;
   joined = λ a b m. absurd (no_member (equals a b) m);
-  shared = λ a b m t. absurd (no_member (equals a b) m);
   single = λ s e. cc;
   ready = ready;
   both_ready = both_ready;
@@ -209,14 +232,14 @@ sample_shows = record { apart = truths_apart; from_rules = from_rules; to_rules 
 
 -- the call's answers are truth values
 pub sample_typed : (g : Got Bool) → AreTyped sample truths sample_sites (with_call g)
-sample_typed g zero n x e f = cc
-sample_typed g (suc zero) n x e f =
-    let two : 2 ≡ n = cc in
-    subst (λ k. (t : ℕ) × (t < k) × (c : Bool) × (truths 1 t ≡ Some c) × (same_bool c x ≡ true)) two (of_truth x) where
-      of_truth : (x : Bool) → (t : ℕ) × (t < 2) × (c : Bool) × (truths 1 t ≡ Some c) × (same_bool c x ≡ true)
-      of_truth true = (1, omega arith, true, refl, refl)
-      of_truth false = (0, omega arith, false, refl, refl)
-sample_typed g (suc (suc s)) n x e f = cc
+sample_typed g zero ts x e f = cc
+sample_typed g (suc zero) ts x e f =
+    let both : 0 ∷ 1 ∷ [] ≡ ts = cc in
+    subst (λ (l : List ℕ). (t : ℕ) × Contains l t × (c : Bool) × (truths t ≡ Some c) × (same_bool c x ≡ true)) both (of_truth x) where
+      of_truth : (x : Bool) → (t : ℕ) × Contains (0 ∷ 1 ∷ []) t × (c : Bool) × (truths t ≡ Some c) × (same_bool c x ≡ true)
+      of_truth true = (1, member_tail 0 1 (1 ∷ []) (member_head 1 []), true, refl, refl)
+      of_truth false = (0, member_head 0 (1 ∷ []), false, refl, refl)
+sample_typed g (suc (suc s)) ts x e f = cc
 
 -- only one truth value passes each test
 pub sample_single : AreSingle sample truths sample_sites

@@ -1,5 +1,5 @@
 -- What the steps of a search say.
-use Rattle.std.proofs.Common.{◌≡◌, inl, inr, ℕ, ◌<◌, ◌+◌, ◌==◌, List, [], ◌∷◌, ◌++◌, Bool, true, false, Option, Some, None, length, take, cond, Contains, slice_get, refl, sym, ◌∙◌, ap, subst, arith, eqb-true, append_assoc, append-nil}
+use Rattle.std.proofs.Common.{◌≡◌, inl, inr, ℕ, ◌==◌, List, [], ◌∷◌, ◌++◌, Bool, true, false, Option, Some, None, length, take, cond, Contains, refl, sym, ◌∙◌, ap, subst, arith, eqb-true, append_assoc, append-nil}
 use Rattle.std.proofs.lemmas.Bool.{eqb-false}
 use Rattle.std.proofs.lemmas.List.Elements.{Contains-append_right}
 use Rattle.isle_missing.specs.declared.demand.Demand.{Demand}
@@ -10,7 +10,7 @@ use Rattle.isle_missing.specs.declared.ids.TestId.{TestId}
 use Rattle.isle_missing.specs.declared.facts.Rest.TheVariants.{Open, Nothing, Only}
 use Rattle.isle_missing.specs.declared.search.Answer.{Answer}
 use Rattle.isle_missing.specs.declared.search.Answer.TheVariants.{Covered, Missing}
-use Rattle.isle_missing.specs.Sites.{Sites, all_tests, single_tests, is_said, is_single}
+use Rattle.isle_missing.specs.Sites.{Sites, all_tests, single_tests}
 use Rattle.isle_missing.specs.Demands.{World, PassesOne, AreCompared, passes, equals, AllHold, SomeMatches, FitsAt, Fits, AllFit}
 use Rattle.isle_missing.specs.Inside.Rows.{is_denied, has_demand, where_holds, where_fails, apart}
 use Rattle.std.specs.List.{list_any}
@@ -18,7 +18,7 @@ use Rattle.isle_missing.specs.Facts.{AreSo}
 use Rattle.isle_missing.specs.Inside.Facts.{AreOpen, IsRest, refutes, is_refuted, are_refuted}
 use Rattle.isle_missing.specs.Inside.Rounds.{CoversUnder, Extends, AnswerIs, IsLeftOf, AreBefore, RoundIs, BranchIs, IsForced, RefusalIs}
 use Rattle.isle_missing.specs.Search.{MissesUnder}
-use Rattle.isle_missing.proofs.Basics.{true_or, clash, or_holds, and_both}
+use Rattle.isle_missing.proofs.Basics.{true_or, clash, or_holds, and_both, member_listed}
 use Rattle.isle_missing.proofs.Worlds.{denied_rule, failed_rule, holds_back, holds_on, holds_fit, fails_back, fails_on, fails_fit, fits_member, member_matches, some_front, front_some, all_fit_append, none_apart, apart_fit, so_push, so_front, so_last, failed_fails}
 
 -- that a demand holds, or fails
@@ -59,28 +59,29 @@ open_refusal sites d old rows forced = (
 )
 
 -- where the tests of a site aren't known, or two are open, nothing is to be forced
-open_forced : (sites : Sites) (facts : List Fact) (s n : ℕ) → IsRest sites facts s Open → all_tests sites s ≡ Some n → AreOpen facts s n
-open_forced sites facts s n (inl none) e = absurd (let f : None ≡ Some n = sym none ∙ e in cc)
-open_forced sites facts s n (inr (m, some, two)) e =
-    let f : Some m ≡ Some n = sym some ∙ e in
-    let same : m ≡ n = cc in
-    subst (λ (k : ℕ). AreOpen facts s k) same two
+open_forced : (sites : Sites) (facts : List Fact) (s : ℕ) (ts : List ℕ) → IsRest sites facts s Open → all_tests sites s ≡ Some ts
+    → AreOpen facts s ts
+open_forced sites facts s ts (inl none) e = absurd (let f : None ≡ Some ts = sym none ∙ e in cc)
+open_forced sites facts s ts (inr (us, some, two)) e =
+    let f : Some us ≡ Some ts = sym some ∙ e in
+    let same : us ≡ ts = cc in
+    subst (λ (l : List ℕ). AreOpen facts s l) same two
 
--- one of the tests of a site passes where these are all that its values have
-one_of : (w : World) (sites : Sites) (s n : ℕ) → PassesOne w s (all_tests sites s) → all_tests sites s ≡ Some n
-    → (t : ℕ) × (t < n) × (w.holds (passes s t) ≡ true)
-one_of w sites s n fit e = subst (PassesOne w s) e fit
+-- a site passes one of the tests of which each of its values does
+one_of : (w : World) (sites : Sites) (s : ℕ) (ts : List ℕ) → PassesOne w s (all_tests sites s) → all_tests sites s ≡ Some ts
+    → (t : ℕ) × Contains ts t × (w.holds (passes s t) ≡ true)
+one_of w sites s ts fit e = subst (PassesOne w s) e fit
 
 pub nothing_refusal : (sites : Sites) (s t : ℕ) (old : List Fact) (rows left : List (List Demand))
     → IsRest sites (old ++ fact (passes s t) false ∷ []) s Nothing
     → RefusalIs sites (passes s t) old rows (old ++ fact (passes s t) false ∷ []) left false
-nothing_refusal sites s t old rows left (n, full, failed) = (
+nothing_refusal sites s t old rows left (ts, full, failed) = (
   λ w so fit fails. none w so fit fails,
   before_push old (fact (passes s t) false),
 ) where
   none : (w : World) → AreSo w old → FitsAt w sites (passes s t) → w.holds (passes s t) ≡ false → ⊥
   none w so fit fails =
-      let one : (u : ℕ) × (u < n) × (w.holds (passes s u) ≡ true) = one_of w sites s n fit full in
+      let one : (u : ℕ) × Contains ts u × (w.holds (passes s u) ≡ true) = one_of w sites s ts fit full in
       clash (w.holds (passes s (one.0))) (one.2) (failed_fails w (old ++ fact (passes s t) false ∷ []) (passes s (one.0))
       (so_push w old (fact (passes s t) false) so fails) (failed (one.0) (one.1) (λ h. h)))
 
@@ -88,7 +89,7 @@ pub only_refusal : (sites : Sites) (s t u : ℕ) (old : List Fact) (rows : List 
     → IsRest sites (old ++ fact (passes s t) false ∷ []) s (Only (record { 0 = u }))
     → RefusalIs sites (passes s t) old rows ((old ++ fact (passes s t) false ∷ []) ++ fact (passes s u) true ∷ [])
     (where_holds (passes s u) (where_fails (passes s t) rows)) true
-only_refusal sites s t u old rows (n, full, failed) = (
+only_refusal sites s t u old rows (ts, full, failed) = (
   λ w so fit fails. (
     so_push w (old ++ fact (passes s t) false ∷ []) (fact (passes s u) true)
         (so_push w old (fact (passes s t) false) so fails) (last_passes w so fit fails),
@@ -110,7 +111,7 @@ only_refusal sites s t u old rows (n, full, failed) = (
   -- the test that passes is the only one that hasn't failed
   last_passes : (w : World) → AreSo w old → FitsAt w sites (passes s t) → w.holds (passes s t) ≡ false → w.holds (passes s u) ≡ true
   last_passes w so fit fails =
-      let one : (v : ℕ) × (v < n) × (w.holds (passes s v) ≡ true) = one_of w sites s n fit full in
+      let one : (v : ℕ) × Contains ts v × (w.holds (passes s v) ≡ true) = one_of w sites s ts fit full in
       elim (true_or (one.0 == u)) [
         | inl e ↦ ap (λ (k : ℕ). w.holds (passes s k)) (sym (eqb-true (one.0) u e)) ∙ one.2
         | inr e ↦ clash (w.holds (passes s (one.0))) (one.2) (failed_fails w (old ++ fact (passes s t) false ∷ []) (passes s (one.0))
@@ -124,7 +125,7 @@ open_told sites d s t old new seen rows left e f g rest p =
     let known : IsRest sites (old ++ fact (Passes s t) false ∷ []) s.0 Open =
     subst (λ (l : List Fact). IsRest sites l s.0 Open) (g ∙ (f ∙ ap (λ (x : Demand). old ++ fact x false ∷ []) e)) rest in
     rw (f, p, e) (open_refusal sites (Passes s t) old rows
-    (λ n all. inl (open_forced sites (old ++ fact (Passes s t) false ∷ []) s.0 n known all)))
+    (λ ts all. inl (open_forced sites (old ++ fact (Passes s t) false ∷ []) s.0 ts known all)))
 
 pub nothing_told : (sites : Sites) (d : Demand) (s : SiteId) (t : TestId) (old new seen : List Fact) (rows left : List (List Demand)) → d ≡ Passes s t
     → new ≡ old ++ fact d false ∷ [] → seen ≡ new → IsRest sites seen s.0 Nothing → RefusalIs sites d old rows new left false
@@ -167,15 +168,12 @@ equals_refusal sites a b old rows = (
   tt,
 ) where
   they_fit : (w : World) → AreCompared w sites a b → AllFit w sites (apart sites a b)
-  they_fit w fit = apart_fit w sites a b 0 (single_tests sites a) fit.first fit.second
+  they_fit w fit = apart_fit w sites a b (single_tests sites a) fit.first fit.second
 
   none : (w : World) → AreCompared w sites a b → w.holds (equals a b) ≡ false → SomeMatches w (apart sites a b) → ⊥
-  none w fit fails m = none_apart w a b 0 (single_tests sites a) each m where
-    each : (u v : ℕ) → v ≡ 0 + u → is_said (slice_get (single_tests sites a) u) ≡ true → w.holds (passes a v) ≡ true → w.holds (passes b v) ≡ true → ⊥
-    each u v same said p q =
-        let at_v : u ≡ v = omega (arith, same) in
-        let single : is_single sites a v ≡ true = subst (λ (n : ℕ). is_said (slice_get (single_tests sites a) n) ≡ true) at_v said in
-        clash (w.holds (equals a b)) (fit.single v single p q) fails
+  none w fit fails m = none_apart w a b (single_tests sites a) each m where
+    each : (t : ℕ) → Contains (single_tests sites a) t → w.holds (passes a t) ≡ true → w.holds (passes b t) ≡ true → ⊥
+    each t listed p q = clash (w.holds (equals a b)) (fit.single t (member_listed (single_tests sites a) t listed) p q) fails
 
 pub equals_told : (sites : Sites) (d : Demand) (a b : SiteId) (old new : List Fact) (rows gone left : List (List Demand)) → d ≡ Same a b
     → new ≡ old ++ fact d false ∷ [] → gone ≡ where_fails d rows → left ≡ gone ++ apart sites a.0 b.0 → RefusalIs sites d old rows new left true

@@ -1,5 +1,5 @@
 -- Facts that are so by a table are so in a world.
-use Rattle.std.proofs.Common.{◌≡◌, inl, inr, ℕ, zero, suc, ◌<◌, ◌≤◌, ◌==◌, not, nat_lt, List, [], ◌∷◌, Bool, true, false, Option, Some, None, cond, length, refl, sym, ◌∙◌, subst, arith, eqb-true, eq-eqb}
+use Rattle.std.proofs.Common.{◌≡◌, inl, inr, ℕ, zero, suc, ◌<◌, ◌≤◌, ◌==◌, not, nat_lt, List, [], ◌∷◌, Bool, true, false, Option, Some, None, cond, length, Contains, refl, sym, ◌∙◌, subst, arith, eqb-true, eq-eqb}
 use Rattle.std.proofs.lemmas.Bool.Decides.{nat_tests}
 use Rattle.isle_missing.specs.declared.demand.Demand.{Demand}
 use Rattle.isle_missing.specs.declared.demand.Demand.TheVariants.{Passes, Same}
@@ -8,9 +8,9 @@ use Rattle.isle_missing.specs.declared.ids.TestId.{TestId}
 use Rattle.isle_missing.specs.Sites.{Sites, all_tests, is_single}
 use Rattle.isle_missing.specs.Demands.{World, PassesOne, AreCompared, Fits, AllFit}
 use Rattle.isle_missing.specs.Facts.{AreSo}
-use Rattle.isle_missing.specs.Inside.Tables.{Table, is_test, is_same, is_held, is_so, are_so, is_below, test_at, HaveTests, ArePossible}
+use Rattle.isle_missing.specs.Inside.Tables.{Table, is_test, is_same, is_held, is_so, are_so, is_among, test_at, HaveTests, ArePossible}
 use Rattle.isle_missing.specs.Possible.{CanBe}
-use Rattle.isle_missing.proofs.Basics.{true_or, true_and, and_both, not_true, clash}
+use Rattle.isle_missing.proofs.Basics.{true_or, true_and, and_both, not_true, clash, listed_member}
 
 -- a site passes one test
 test_one : (o : Option TestId) (t u : ℕ) → is_test o t ≡ true → is_test o u ≡ true → t ≡ u
@@ -35,13 +35,14 @@ facts_so sites table (f ∷ fs) e =
 
 -- ---- sites
 
-below_one : (o : Option TestId) (n : ℕ) → is_below o (Some n) ≡ true → (t : ℕ) × (t < n) × (is_test o t ≡ true)
-below_one None n h = clash false h refl
-below_one (Some k) n h = (k.0, grind (arith, nat_tests, h), eq-eqb k.0 k.0 refl)
+among_one : (o : Option TestId) (ts : List ℕ) → is_among o (Some ts) ≡ true → (t : ℕ) × Contains ts t × (is_test o t ≡ true)
+among_one None ts h = clash false h refl
+among_one (Some k) ts h = (k.0, listed_member ts k.0 h, eq-eqb k.0 k.0 refl)
 
-passes_one : (sites : Sites) (table : Table) (s : ℕ) (o : Option ℕ) → is_below (test_at table s) o ≡ true → PassesOne (world_by sites table) s o
+passes_one : (sites : Sites) (table : Table) (s : ℕ) (o : Option (List ℕ)) → is_among (test_at table s) o ≡ true
+    → PassesOne (world_by sites table) s o
 passes_one sites table s None h = tt
-passes_one sites table s (Some n) h = below_one (test_at table s) n h
+passes_one sites table s (Some ts) h = among_one (test_at table s) ts h
 
 -- two sites that are the same pass the same tests
 same_carries : (sites : Sites) (a t : ℕ) (o other : Option TestId) → is_same sites a o other ≡ true → is_test o t ≡ is_test other t
@@ -94,16 +95,16 @@ beyond [] s h = refl
 beyond (x ∷ xs) zero h = absurd (omega (arith, h))
 beyond (x ∷ xs) (suc s) h = beyond xs s (omega (arith, h))
 
-any_below : (o : Option TestId) → is_below o None ≡ true
-any_below None = refl
-any_below (Some t) = refl
+among_any : (o : Option TestId) → is_among o None ≡ true
+among_any None = refl
+among_any (Some t) = refl
 
 -- what holds of the sites that are listed holds of all
-pub all_have : (sites : Sites) (table : Table) → ((s : ℕ) → s < length sites → is_below (test_at table s) (all_tests sites s) ≡ true)
+pub all_have : (sites : Sites) (table : Table) → ((s : ℕ) → s < length sites → is_among (test_at table s) (all_tests sites s) ≡ true)
     → HaveTests sites table
 all_have sites table each s = elim (true_or (nat_lt s (length sites))) [
   | inl h ↦ each s (let below : s < length sites = grind (arith, nat_tests, h) in below)
   | inr h ↦
       let past : length sites ≤ s = grind (arith, nat_tests, h) in
-      subst (λ (o : Option ℕ). is_below (test_at table s) o ≡ true) (sym (beyond sites s past)) (any_below (test_at table s))
+      subst (λ (o : Option (List ℕ)). is_among (test_at table s) o ≡ true) (sym (beyond sites s past)) (among_any (test_at table s))
 ]

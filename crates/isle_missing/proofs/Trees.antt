@@ -16,8 +16,8 @@ use Rattle.isle_missing.specs.declared.facts.Fact.{Fact}
 use Rattle.isle_missing.specs.Sites.{Sites, all_tests}
 use Rattle.isle_missing.specs.Demands.{World, PassesOne, AreCompared, passes, equals, AllHold, SomeMatches, Fits, AllFit}
 use Rattle.isle_missing.specs.Facts.{AreSo}
-use Rattle.isle_missing.specs.Trees.{Numbering, passes_numbered, holds_by, IsWorldOf, AreApart, AreTyped, AreSingle, IsLinked, by_pair, turned, over, IsReady, by_test, by_parts, StandsFor, Shows}
-use Rattle.isle_missing.proofs.Basics.{clash}
+use Rattle.isle_missing.specs.Trees.{Numbering, IsNumber, passes_numbered, holds_by, IsWorldOf, AreApart, AreTyped, AreSingle, IsLinked, by_pair, turned, over, IsReady, by_test, by_parts, StandsFor, Shows, AreMutual, CoveredRulesMatch, MissingRulesFail}
+use Rattle.isle_missing.proofs.Basics.{clash, member_head, member_tail}
 
 -- what passes a numbered test has a value that passes it
 numbered_passes : {C V : Type 0} (R : Rules C V) (o : Option C) (g : Got V) → passes_numbered R o g ≡ true
@@ -34,6 +34,22 @@ passes_by R o g c e p = rw e p
 got_by : {C V : Type 0} (R : Rules C V) (o : Option C) (g : Got V) (c : C) → o ≡ Some c → passes_numbered R o g ≡ true → passes_got R c g ≡ true
 got_by R o g c e p = let q : passes_numbered R (Some c) g ≡ true = subst (λ k. passes_numbered R k g ≡ true) e p in q
 
+-- what passes the same tests
+same_got : {C V : Type 0} (R : Rules C V) (c d : C) (g : Got V) → ((x : V) → R.tests.passes d x ≡ R.tests.passes c x)
+    → passes_got R d g ≡ passes_got R c g
+same_got R c d unknown same = refl
+same_got R c d fails same = refl
+same_got R c d (gives x) same = same x
+
+-- what passes a test passes its number, and the other way
+passes_by_number : {C V : Type 0} (R : Rules C V) (test : Numbering C) (c : C) (t : ℕ) (g : Got V) → IsNumber R test c t → passes_got R c g ≡ true
+    → passes_numbered R (test t) g ≡ true
+passes_by_number R test c t g (d, at, same) p = passes_by R (test t) g d at (same_got R c d g same ∙ p)
+
+got_by_number : {C V : Type 0} (R : Rules C V) (test : Numbering C) (c : C) (t : ℕ) (g : Got V) → IsNumber R test c t
+    → passes_numbered R (test t) g ≡ true → passes_got R c g ≡ true
+got_by_number R test c t g (d, at, same) p = sym (same_got R c d g same) ∙ got_by R (test t) g d at p
+
 passes_given : {C V : Type 0} (R : Rules C V) (c : C) (g : Got V) (x : V) → g ≡ gives x → R.tests.passes c x ≡ true → passes_got R c g ≡ true
 passes_given R c g x e p = rw e p
 
@@ -48,11 +64,16 @@ pub world_of : {C V : Type 0} (R : Rules C V) (test : Numbering C) (v : Answers 
 world_of R test v apart = record {
   holds = holds_by R test v;
   one = λ s t u p q.
-      let f = numbered_passes R (test s t) (v s) p in
-      let g = numbered_passes R (test s u) (v s) q in
+      let f = numbered_passes R (test t) (v s) p in
+      let g = numbered_passes R (test u) (v s) q in
       let same : g.1 ≡ f.1 = one_gives (g.1) (f.1) (sym (g.3) ∙ f.3) in
-      apart s t u (f.0) (g.0) (f.1) (f.2) (g.2) (f.4) (subst (λ x. R.tests.passes (g.0) x ≡ true) same (g.4));
+      apart t u (f.0) (g.0) (f.1) (f.2) (g.2) (f.4) (subst (λ x. R.tests.passes (g.0) x ≡ true) same (g.4));
 }
+
+pub is_world_of : {C V : Type 0} (R : Rules C V) (test : Numbering C) (v : Answers V) (apart : AreApart R test)
+    → IsWorldOf R test v (world_of R test v apart)
+unfolding world_of
+is_world_of R test v apart d = refl
 
 -- ---- lists of demands
 
@@ -60,12 +81,6 @@ all_member : (w : World) (row : List Demand) (d : Demand) → AllHold w row → 
 all_member w [] d all m = absurd (omega (arith, m.1))
 all_member w (e ∷ es) d all (zero, below, same) = subst (λ (x : Demand). w.holds x ≡ true) same (all.0)
 all_member w (e ∷ es) d all (suc k, below, same) = all_member w es d (all.1) (k, omega arith, same)
-
-member_head : {X : Type 0} (x : X) (xs : List X) → Contains (x ∷ xs) x
-member_head x xs = (0, omega arith, refl)
-
-member_tail : {X : Type 0} (x y : X) (xs : List X) → Contains xs y → Contains (x ∷ xs) y
-member_tail x y xs (k, below, same) = (suc k, omega arith, same)
 
 all_from : (w : World) (row : List Demand) → ((d : Demand) → Contains row d → w.holds d ≡ true) → AllHold w row
 all_from w [] each = tt
@@ -99,20 +114,20 @@ ready_valued : {C V : Type 0} {R : Rules C V} {test : Numbering C} {front : List
     → Respects R v → KnowsAsked R v → AllHold w front → IsReady R test front s → Asked R i s → HasValue (v s)
 ready_valued {R = R} {test = test} {front = front} v w i is rs ka all (by_test s m c t made want numbered member) asked =
     let holds : holds_by R test v (passes m.site t) ≡ true = sym (is (passes m.site t)) ∙ all_member w front (passes m.site t) all member in
-    let passes : passes_got R c (v m.site) ≡ true = got_by R (test m.site t) (v m.site) c numbered holds in
+    let passes : passes_got R c (v m.site) ≡ true = got_by_number R test c t (v m.site) numbered holds in
     rs.field s m made (subst (λ k. Meets R k (v m.site)) (sym want) passes)
 ready_valued {R = R} v w i is rs ka all (by_parts s made parts) asked =
     valued (v s) (ka i s asked)
     (rs.whole s made (λ p e. ready_valued v w i is rs ka all (parts p e) (by_part s p asked e)))
 
--- a site whose tests are all known passes one
-fits_at : {C V : Type 0} (R : Rules C V) (test : Numbering C) (sites : Sites) (v : Answers V) (w : World) (s : ℕ) (o : Option ℕ)
+-- a site passes one of the tests of which each of its values does
+fits_at : {C V : Type 0} (R : Rules C V) (test : Numbering C) (sites : Sites) (v : Answers V) (w : World) (s : ℕ) (o : Option (List ℕ))
     → IsWorldOf R test v w
     → AreTyped R test sites v → all_tests sites s ≡ o → HasValue (v s) → PassesOne w s o
 fits_at R test sites v w s None is typed e h = tt
-fits_at R test sites v w s (Some n) is typed e h =
-    let t = typed s n (h.0) e (h.1) in
-    (t.0, t.1, is (passes s (t.0)) ∙ passes_by R (test s (t.0)) (v s) (t.2) (t.3) (passes_given R (t.2) (v s) (h.0) (h.1) (t.4)))
+fits_at R test sites v w s (Some ts) is typed e h =
+    let t = typed s ts (h.0) e (h.1) in
+    (t.0, t.1, is (passes s (t.0)) ∙ passes_by R (test (t.0)) (v s) (t.2) (t.3) (passes_given R (t.2) (v s) (h.0) (h.1) (t.4)))
 
 -- ---- equal sites
 
@@ -128,25 +143,19 @@ values_alike R g h exact value e =
     let f : h ≡ gives (value.0) = sym e ∙ value.1 in
     rw (value.1, f) (exact.alike_self (value.0))
 
--- sites that are equal in both directions
-abbrev AreMutual : {C V : Type 0} → Rules C V → Type 0
-AreMutual R = (i a b : ℕ) → R.joins i a b ≡ true → R.joins i b a ≡ true
-
 -- two sites that a rule wants to be equal are compared by what they hold
 compared : {C V : Type 0} (R : Rules C V) (test : Numbering C) (sites : Sites) (v : Answers V) (w : World) (a b : ℕ) → AreExact R.tests
-    → IsWorldOf R test v w → AreTyped R test sites v → AreSingle R test sites → ((t : ℕ) → test a t ≡ test b t) → HasValue (v a) → HasValue (v b)
-    → AreCompared w sites a b
-compared R test sites v w a b exact is typed one shared first second = record {
+    → IsWorldOf R test v w → AreTyped R test sites v → AreSingle R test sites → HasValue (v a) → HasValue (v b) → AreCompared w sites a b
+compared R test sites v w a b exact is typed one first second = record {
   first = fits_at R test sites v w a (all_tests sites a) is typed refl first;
   second = fits_at R test sites v w b (all_tests sites b) is typed refl second;
   carried = λ t h.
       let alike : HasValue (v a) × (v a ≡ v b) = alike_values R (v a) (v b) exact (sym (is (equals a b)) ∙ h) in
-      is (passes a t)
-      ∙ (ap (λ o. passes_numbered R o (v a)) (shared t) ∙ (ap (λ g. passes_numbered R (test b t) g) (alike.1) ∙ sym (is (passes b t))));
+      is (passes a t) ∙ (ap (λ g. passes_numbered R (test t) g) (alike.1) ∙ sym (is (passes b t)));
   single = λ t u p q.
-      let f = numbered_passes R (test a t) (v a) (sym (is (passes a t)) ∙ p) in
-      let g = numbered_passes R (test b t) (v b) (sym (is (passes b t)) ∙ q) in
-      let test_same : g.0 ≡ f.0 = one_some (g.0) (f.0) (sym (g.2) ∙ (sym (shared t) ∙ f.2)) in
+      let f = numbered_passes R (test t) (v a) (sym (is (passes a t)) ∙ p) in
+      let g = numbered_passes R (test t) (v b) (sym (is (passes b t)) ∙ q) in
+      let test_same : g.0 ≡ f.0 = one_some (g.0) (f.0) (sym (g.2) ∙ f.2) in
       let theirs : R.tests.passes (f.0) (g.1) ≡ true = subst (λ c. R.tests.passes c (g.1) ≡ true) test_same (g.4) in
       let value_same : f.1 ≡ g.1 = one a t (f.0) (f.1) (g.1) u (f.2) (f.4) theirs in
       is (equals a b) ∙ values_alike R (v a) (v b) exact first (f.3 ∙ (ap (λ x. gives x) value_same ∙ sym (g.3)));
@@ -165,7 +174,7 @@ fits_rest R test sites v w i row front (Same a b ∷ back) exact both is typed o
     let ready = stands.both_ready a.0 b.0 front back e in
     let first : HasValue (v a.0) = ready_valued v w i is rs ka all (ready.0) (by_class a.0 b.0 (joined.0)) in
     let second : HasValue (v b.0) = ready_valued v w i is rs ka all (ready.1) (by_class b.0 a.0 (both i a.0 b.0 (joined.0))) in (
-      compared R test sites v w a.0 b.0 exact is typed one (stands.shared a.0 b.0 member) first second,
+      compared R test sites v w a.0 b.0 exact is typed one first second,
       λ h. fits_rest R test sites v w i row (front ++ Same a b ∷ []) back exact both is typed one rs ka stands
           (e ∙ sym (append_assoc front (Same a b ∷ []) back)) (all_push w front (Same a b) all h),
     )
@@ -215,7 +224,7 @@ row_matches {C} R test v w i row exact is stands all = record {
   want : (s : ℕ) (k : Want C) → R.at i s ≡ Some k → Meets R k (v s)
   want s (has c) e =
       let t = stands.wants s c e in
-      got_by R (test s (t.0)) (v s) c (t.1) (sym (is (passes s (t.0))) ∙ all_member w row (passes s (t.0)) all (t.2))
+      got_by_number R test c (t.0) (v s) (t.1) (sym (is (passes s (t.0))) ∙ all_member w row (passes s (t.0)) all (t.2))
   want s one_value e = absurd (stands.single s e)
 
 matches_row : {C V : Type 0} (R : Rules C V) (test : Numbering C) (v : Answers V) (w : World) (i : ℕ) (row : List Demand) → AreExact R.tests
@@ -224,7 +233,7 @@ matches_row R test v w i row exact is stands matches = all_from w row each where
   each : (d : Demand) → Contains row d → w.holds d ≡ true
   each (Passes s t) m =
       let c = stands.wanted s.0 t.0 m in
-      is (Passes s t) ∙ passes_by R (test s.0 t.0) (v s.0) (c.0) (c.1) (matches.wants s.0 (has (c.0)) (c.2))
+      is (Passes s t) ∙ passes_by_number R test (c.0) t.0 (v s.0) (c.1) (matches.wants s.0 (has (c.0)) (c.2))
   each (Same a b) m =
       let j = stands.joined a.0 b.0 m in
       let e = matches.equals a.0 b.0 (j.0) (j.1) in
@@ -233,16 +242,19 @@ matches_row R test v w i row exact is stands matches = all_from w row each where
 -- ---- the theorems
 
 -- some rule matches, whatever is answered
-pub some_matches : {C V : Type 0} (R : Rules C V) (test : Numbering C) (left : List ℕ) (sites : Sites) (rows : List (List Demand)) (v : Answers V)
-    → AreExact R.tests → AreMutual R → Shows R test left rows → ((w : World) → AllFit w sites rows → SomeMatches w rows) → Respects R v
-    → KnowsAsked R v → AreTyped R test sites v → AreSingle R test sites → (i : ℕ) × Elem i left × Matches R v i
-unfolding world_of
-some_matches R test left sites rows v exact both shows covers rs ka typed one =
+pub some_matches : {C V : Type 0} → CoveredRulesMatch C V
+some_matches R left test sites rows v exact both shows covers rs ka typed one =
     let w : World = world_of R test v shows.apart in
-    let is : IsWorldOf R test v w = λ d. refl in
+    let is : IsWorldOf R test v w = is_world_of R test v shows.apart in
     let found = some_rule w rows (covers w (all_fit R test sites v w left rows exact both is typed one rs ka shows.from_rules)) in
     let rule = shows.from_rules (found.0) (found.1) in
     (rule.0, rule.1, row_matches R test v w (rule.0) (found.0) exact is (rule.2) (found.2))
+
+-- where the facts are so no rule matches
+pub none_matches : {C V : Type 0} → MissingRulesFail C V
+none_matches R left test rows facts v w exact shows misses is so i m matches =
+    let row = shows.to_rules i m in
+    misses w so (rule_some w rows (row.0) (row.1) (matches_row R test v w i (row.0) exact is (row.2) matches))
 
 -- a walk under some answers never comes to the end without a return
 pub covered_walks : {C V : Type 0} (R : Rules C V) (left : List ℕ) (T : Steps C) (test : Numbering C) (sites : Sites) (rows : List (List Demand))
@@ -252,7 +264,7 @@ pub covered_walks : {C V : Type 0} (R : Rules C V) (left : List ℕ) (T : Steps 
 covered_walks R left T test sites rows r v tree shows covers rr agree rs ka strict typed one e =
     let sure : IsSure R v left (walk R r T) = whole_sure R left T r v tree rr agree ka strict in
     let none : NoneMatches R v left = subst (λ o. IsSure R v left o) e sure in
-    let some = some_matches R test left sites rows v (tree.made.exact) (tree.made.both) shows covers rs ka typed one in
+    let some = some_matches R left test sites rows v (tree.made.exact) (tree.made.both) shows covers rs ka typed one in
     none (some.0) (some.1) (some.2)
 
 ends_where_none : {C V : Type 0} (R : Rules C V) (v : Answers V) (left : List ℕ) (o : Outcome) → IsRight R v left o → NoneMatches R v left → o ≡ ends
@@ -267,8 +279,5 @@ pub missing_walks : {C V : Type 0} (R : Rules C V) (left : List ℕ) (T : Steps 
     (w : World) → IsTreeOf R left T → Shows R test left rows → ((w : World) → AreSo w facts → SomeMatches w rows → ⊥) → Respects R v → KnowsAsked R v
     → IsStrict R v → IsWorldOf R test v w → AreSo w facts → walk R v T ≡ ends
 missing_walks R left T test rows facts v w tree shows misses rs ka strict is so =
-    ends_where_none R v left (walk R v T) (whole_right R left T v tree rs ka strict) none where
-      none : (i : ℕ) → Elem i left → Matches R v i → ⊥
-      none i m matches =
-          let row = shows.to_rules i m in
-          misses w so (rule_some w rows (row.0) (row.1) (matches_row R test v w i (row.0) (tree.made.exact) is (row.2) matches))
+    ends_where_none R v left (walk R v T) (whole_right R left T v tree rs ka strict)
+    (none_matches R left test rows facts v w (tree.made.exact) shows misses is so)

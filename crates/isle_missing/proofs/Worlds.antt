@@ -1,16 +1,16 @@
 -- What is left of rules where a demand holds or fails, in a world.
-use Rattle.std.proofs.Common.{◌≡◌, ◌⊎◌, inl, inr, ℕ, zero, suc, ◌+◌, not, List, [], ◌∷◌, ◌++◌, Bool, true, false, cond, Contains, slice_get, refl, sym, ◌∙◌, ap, subst, arith}
+use Rattle.std.proofs.Common.{◌≡◌, ◌⊎◌, inl, inr, ℕ, zero, suc, not, List, [], ◌∷◌, ◌++◌, Bool, true, false, cond, Contains, refl, sym, ◌∙◌, ap, subst, arith}
 use Rattle.std.specs.List.{list_any}
 use Rattle.std.proofs.lemmas.List.Elements.{All-contains, All-from_recursion}
 use Rattle.std.specs.List.{AllByRecursion}
 use Rattle.isle_missing.specs.declared.demand.Demand.{Demand}
 use Rattle.isle_missing.specs.declared.facts.Fact.{Fact}
-use Rattle.isle_missing.specs.Sites.{Sites, is_said, all_tests}
+use Rattle.isle_missing.specs.Sites.{Sites, all_tests}
 use Rattle.isle_missing.specs.Demands.{World, PassesOne, passes, AllHold, SomeMatches, Fits, AllFit}
-use Rattle.isle_missing.specs.Inside.Rows.{same_demand, denies, is_denied, has_demand, without, where_holds, where_fails, apart_from}
+use Rattle.isle_missing.specs.Inside.Rows.{same_demand, denies, is_denied, has_demand, without, where_holds, where_fails, apart_by}
 use Rattle.isle_missing.specs.Facts.{AreSo}
 use Rattle.isle_missing.specs.Inside.Facts.{says_failed, has_failed}
-use Rattle.isle_missing.proofs.Basics.{and_both, or_holds, not_true, not_false, clash, same_is_equal, denied_fails}
+use Rattle.isle_missing.proofs.Basics.{and_both, or_holds, not_true, not_false, clash, same_is_equal, denied_fails, member_head, member_tail}
 
 -- ---- one rule
 
@@ -161,25 +161,16 @@ all_fit_append w sites (row ∷ rows) more fit others = (fit.0, all_fit_append w
 
 -- ---- what two sites that aren't equal never do
 
-apart_at : (w : World) (b : Bool) (row : List Demand) (rest : List (List Demand)) → (b ≡ true → AllHold w row → ⊥) → (SomeMatches w rest → ⊥)
-    → SomeMatches w (cond b (row ∷ rest) rest) → ⊥
-apart_at w true row rest one others (inl m) = one refl m
-apart_at w true row rest one others (inr m) = others m
-apart_at w false row rest one others m = others m
+pub none_apart : (w : World) (a b : ℕ) (ts : List ℕ)
+    → ((t : ℕ) → Contains ts t → w.holds (passes a t) ≡ true → w.holds (passes b t) ≡ true → ⊥) → SomeMatches w (apart_by a b ts) → ⊥
+none_apart w a b [] each m = m
+none_apart w a b (t ∷ rest) each (inl all) = each t (member_head t rest) (all.0) (all.1.0)
+none_apart w a b (t ∷ rest) each (inr m) = none_apart w a b rest (λ u n. each u (member_tail t u rest n)) m
 
-pub none_apart : (w : World) (a b t : ℕ) (singles : List Bool)
-    → ((u v : ℕ) → v ≡ t + u → is_said (slice_get singles u) ≡ true → w.holds (passes a v) ≡ true → w.holds (passes b v) ≡ true → ⊥)
-    → SomeMatches w (apart_from a b t singles) → ⊥
-none_apart w a b t [] each m = m
-none_apart w a b t (single ∷ rest) each m =
-    apart_at w single (passes a t ∷ passes b t ∷ []) (apart_from a b (t + 1) rest) (λ e all. each 0 t (omega arith) e (all.0) (all.1.0))
-    (none_apart w a b (t + 1) rest (λ u v e. each (suc u) v (omega arith))) m
-
-pub apart_fit : (w : World) (sites : Sites) (a b t : ℕ) (singles : List Bool) → PassesOne w a (all_tests sites a) → PassesOne w b (all_tests sites b)
-    → AllFit w sites (apart_from a b t singles)
-apart_fit w sites a b t [] p q = tt
-apart_fit w sites a b t (single ∷ rest) p q =
-    fit_or w sites single (passes a t ∷ passes b t ∷ []) (apart_from a b (t + 1) rest) (p, λ h. (q, λ k. tt)) (apart_fit w sites a b (t + 1) rest p q)
+pub apart_fit : (w : World) (sites : Sites) (a b : ℕ) (ts : List ℕ) → PassesOne w a (all_tests sites a) → PassesOne w b (all_tests sites b)
+    → AllFit w sites (apart_by a b ts)
+apart_fit w sites a b [] p q = tt
+apart_fit w sites a b (t ∷ rest) p q = ((p, λ h. (q, λ k. tt)), apart_fit w sites a b rest p q)
 
 -- ---- members
 

@@ -1,5 +1,5 @@
 -- Demands by their numbers, and the worlds in which they hold.
-use Rattle.std.specs.Prelude.{◌≡◌, ◌<◌, ℕ, Bool, true, List, [], ◌∷◌, Option, Some, None, ◌⊎◌}
+use Rattle.std.specs.Prelude.{◌≡◌, ℕ, Bool, true, List, [], ◌∷◌, Option, Some, None, Contains, ◌⊎◌}
 use Rattle.isle_missing.specs.declared.demand.Demand.{Demand}
 use Rattle.isle_missing.specs.declared.demand.Demand.TheVariants.{Passes, Same}
 use Rattle.isle_missing.specs.Sites.{Sites, all_tests, is_single}
@@ -27,10 +27,10 @@ abbrev pub SomeMatches : World → List (List Demand) → Type 0
 SomeMatches w [] = ⊥
 SomeMatches w (row ∷ rows) = AllHold w row ⊎ SomeMatches w rows
 
--- one of so many tests passes
-abbrev pub PassesOne : World → ℕ → Option ℕ → Type 0
+-- a site passes one of these tests, where they are known
+abbrev pub PassesOne : World → ℕ → Option (List ℕ) → Type 0
 PassesOne w s None = Unit {0}
-PassesOne w s (Some n) = (t : ℕ) × (t < n) × (w.holds (passes s t) ≡ true)
+PassesOne w s (Some ts) = (t : ℕ) × Contains ts t × (w.holds (passes s t) ≡ true)
 
 -- Two sites have values. Where they hold the same, they pass the same tests. Where both pass a test that only one value passes, they hold the same.
 pub record AreCompared (w : World) (sites : Sites) (a b : ℕ) : Type 0 where

@@ -5,12 +5,19 @@ use Rattle.isle_missing.specs.Sites.{KnownTests, Sites}
 use Rattle.isle_missing.specs.Demands.{passes, equals}
 use Rattle.isle_missing.specs.Trees.{Numbering}
 
--- two tests that are all and that one value passes each, as of truth values; two that are all and that many pass; any number
+-- Two tests of which each value passes one, and that one value passes each, as of truth values; two that many pass, under these numbers and
+-- under others; one of two that is listed twice; no known tests.
 abbrev pub truth_site : KnownTests
-truth_site = record { all = Some 2; single = true ∷ true ∷ [] }
+truth_site = record { all = Some (0 ∷ 1 ∷ []); single = 0 ∷ 1 ∷ [] }
 
 abbrev pub kind_site : KnownTests
-kind_site = record { all = Some 2; single = false ∷ false ∷ [] }
+kind_site = record { all = Some (0 ∷ 1 ∷ []); single = [] }
+
+abbrev pub other_kind_site : KnownTests
+other_kind_site = record { all = Some (2 ∷ 3 ∷ []); single = [] }
+
+abbrev pub twice_site : KnownTests
+twice_site = record { all = Some (0 ∷ 0 ∷ 1 ∷ []); single = [] }
 
 abbrev pub open_site : KnownTests
 open_site = record { all = None; single = [] }
@@ -19,9 +26,12 @@ open_site = record { all = None; single = [] }
 abbrev pub both_rules : List (List Demand)
 both_rules = (passes 0 0 ∷ []) ∷ (passes 0 1 ∷ []) ∷ []
 
--- where these are all its tests, and where they aren't
+-- where each value passes one of them, where one is listed twice, and where a value may pass neither
 abbrev pub two_tests : Sites
 two_tests = truth_site ∷ []
+
+abbrev pub twice_listed : Sites
+twice_listed = twice_site ∷ []
 
 abbrev pub any_tests : Sites
 any_tests = open_site ∷ []
@@ -37,11 +47,19 @@ two_truths = truth_site ∷ truth_site ∷ []
 abbrev pub two_kinds : Sites
 two_kinds = kind_site ∷ kind_site ∷ []
 
+-- a rule for the first test of the first site, and one for each test of the second where the other passes
+abbrev pub other_rules : List (List Demand)
+other_rules = (passes 0 0 ∷ []) ∷ (passes 0 1 ∷ passes 1 2 ∷ []) ∷ (passes 0 1 ∷ passes 1 3 ∷ []) ∷ []
+
+-- of two sites that list different tests
+abbrev pub other_kinds : Sites
+other_kinds = kind_site ∷ other_kind_site ∷ []
+
 -- the truth values by number
 abbrev pub truths : Numbering Bool
-truths s zero = Some false
-truths s (suc zero) = Some true
-truths s (suc (suc t)) = None
+truths zero = Some false
+truths (suc zero) = Some true
+truths (suc (suc t)) = None
 
 -- the rules of the sample: the first wants that the call, site 1, gives true; the second wants nothing
 abbrev pub sample_rows : List (List Demand)

@@ -4,7 +4,7 @@ ghost use Rattle.isle_missing.specs.Inside.Rows.{denies, same_demand};
 
 use crate::ids::{SiteId, TestId};
 
-/// What a rule demands of a call. Of one site at most one of the numbered tests passes.
+/// What a rule demands of a call. A site passes at most one test.
 #[derive(Clone, Copy)]
 pub enum Demand {
     /// The site passes the test.

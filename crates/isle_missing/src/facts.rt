@@ -1,7 +1,7 @@
 //! What is known of a call: demands that hold, and demands that fail.
 ghost use Rattle.std.specs.Prelude.{◌≡◌};
 ghost use Rattle.std.specs.List.{list_all};
-ghost use Rattle.isle_missing.specs.Inside.Facts.{are_refuted, has_failed, is_refuted, refutes, says_failed, IsRest};
+ghost use Rattle.isle_missing.specs.Inside.Facts.{are_refuted, has_failed, has_other_open, is_refuted, refutes, says_failed, IsOpenTest, IsRest};
 
 use crate::demand::Demand;
 use crate::ids::{SiteId, TestId};
@@ -105,9 +105,30 @@ pub(crate) fn has_failed(facts: &[Fact], demand: Demand) -> bool
     facts.iter().any(|fact| fact.says_failed(demand))
 }
 
+/// One of these tests of a site that hasn't failed.
+pub(crate) fn open_test(facts: &[Fact], site: SiteId, tests: &[TestId]) -> Option<TestId>
+    ensures { IsOpenTest facts.now site.0 tests.now result }
+{
+    for test in tests {
+        if !has_failed(facts, Demand::Passes { site, test: *test }) {
+            return Some(*test);
+        }
+    }
+    None
+}
+
+/// Whether another of them hasn't.
+fn has_other_open(facts: &[Fact], site: SiteId, tests: &[TestId], known: TestId) -> bool
+    ensures { result ≡ has_other_open facts.now site.0 tests.now known }
+{
+    tests.iter().any(|test| {
+        test.0 != known.0 && !has_failed(facts, Demand::Passes { site, test: *test })
+    })
+}
+
 /// What is left of the tests of a site.
 pub(crate) enum Rest {
-    /// Several, or others than those that rules ask.
+    /// Several, or it isn't known of which tests each value passes one.
     Open,
     /// None: no value of the site passes none of its tests.
     Nothing,
@@ -115,25 +136,16 @@ pub(crate) enum Rest {
     Only(TestId),
 }
 
-/// The tests of a site that haven't failed, where they are known.
+/// The tests of a site that haven't failed, of those of which each value passes one.
 pub(crate) fn rest_of(sites: &[SiteTests], facts: &[Fact], site: SiteId) -> Rest
     ensures { IsRest sites.now facts.now site.0 result }
 {
-    let Some(count) = all_tests(sites, site) else {
+    let Some(tests) = all_tests(sites, site) else {
         return Rest::Open;
     };
-    let mut only = None;
-    for number in 0..count {
-        let test = TestId(number);
-        if !has_failed(facts, Demand::Passes { site, test }) {
-            match only {
-                Some(_) => return Rest::Open,
-                None => only = Some(number),
-            }
-        }
-    }
-    match only {
+    match open_test(facts, site, tests) {
         None => Rest::Nothing,
-        Some(number) => Rest::Only(TestId(number)),
+        Some(known) if has_other_open(facts, site, tests, known) => Rest::Open,
+        Some(known) => Rest::Only(known),
     }
 }

@@ -4,6 +4,6 @@
 #[derive(Clone, Copy)]
 pub struct SiteId(pub usize);
 
-/// The number of a test among those of its site. Two sites that a rule wants to be equal number their tests alike.
+/// The number of a test, the same at each site.
 #[derive(Clone, Copy)]
 pub struct TestId(pub usize);

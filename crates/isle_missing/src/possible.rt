@@ -1,12 +1,12 @@
 //! Whether some call can meet facts.
 ghost use Rattle.std.specs.Prelude.{◌≡◌, IfOk, IsTrue};
 ghost use Rattle.isle_missing.specs.Sites.{all_tests};
-ghost use Rattle.isle_missing.specs.Inside.Tables.{are_so, is_below, is_held, is_same, is_so, is_test, test_at, ArePossible, HaveTests};
+ghost use Rattle.isle_missing.specs.Inside.Tables.{are_so, is_among, is_held, is_same, is_so, is_test, test_at, ArePossible, HaveTests};
 
 use crate::demand::Demand;
-use crate::facts::{Fact, has_failed};
+use crate::facts::{Fact, open_test};
 use crate::ids::{SiteId, TestId};
-use crate::sites::{SiteTests, all_tests, is_single};
+use crate::sites::{SiteTests, all_tests, is_listed, is_single};
 use std::alloc::{AllocError, Global};
 
 /// The test of a site that a fact says to pass.
@@ -21,22 +21,11 @@ fn held_test(facts: &[Fact], site: SiteId) -> Option<TestId> {
     None
 }
 
-/// The first of so many tests of a site that hasn't failed.
-fn first_open(facts: &[Fact], site: SiteId, count: usize) -> Option<TestId> {
-    for number in 0..count {
-        let test = TestId(number);
-        if !has_failed(facts, Demand::Passes { site, test }) {
-            return Some(test);
-        }
-    }
-    None
-}
-
 /// A test that a site can pass where the facts are so.
 fn some_test(sites: &[SiteTests], facts: &[Fact], site: SiteId) -> Option<TestId> {
     match (held_test(facts, site), all_tests(sites, site)) {
         (Some(test), _) => Some(test),
-        (None, Some(count)) => first_open(facts, site, count),
+        (None, Some(tests)) => open_test(facts, site, tests),
         (None, None) => None,
     }
 }
@@ -112,12 +101,12 @@ fn are_so(sites: &[SiteTests], table: &[Option<TestId>], facts: &[Fact]) -> bool
     facts.iter().all(|fact| is_so(sites, table, fact))
 }
 
-/// Whether a site passes one of its tests, where these are all.
+/// Whether a site passes one of the tests of which each of its values does.
 fn has_test(sites: &[SiteTests], table: &[Option<TestId>], site: SiteId) -> bool
-    ensures { result ≡ is_below (test_at table.now site.0) (all_tests sites.now site.0) }
+    ensures { result ≡ is_among (test_at table.now site.0) (all_tests sites.now site.0) }
 {
     match (test_at(table, site), all_tests(sites, site)) {
-        (Some(test), Some(count)) => test.0 < count,
+        (Some(test), Some(tests)) => is_listed(tests, test),
         (None, Some(_)) => false,
         (_, None) => true,
     }

@@ -3,7 +3,7 @@ ghost use Rattle.std.specs.Prelude.{◌≡◌, ◌<◌, ◌++◌, IfOk, OnOk, le
 ghost use Rattle.isle_missing.specs.Inside.Rows.{apart, is_denied, has_demand, without, where_holds, where_fails, IsChoice};
 
 use crate::demand::Demand;
-use crate::ids::{SiteId, TestId};
+use crate::ids::SiteId;
 use crate::sites::{SiteTests, single_tests};
 use std::alloc::{AllocError, Global};
 use std::marker::Model;
@@ -109,15 +109,18 @@ pub(crate) fn add_apart(
 ) -> Result<(), AllocError>
     ensures { OnOk result (rows.new.items ≡ rows.old.items ++ apart sites.now first.0 second.0) }
 {
-    for (number, single) in single_tests(sites, first).iter().enumerate() {
-        if *single {
-            let test = TestId(number);
-            let both = [
-                Demand::Passes { site: first, test },
-                Demand::Passes { site: second, test },
-            ];
-            rows.push(Row::new(both.to_vec(alloc)?))?;
-        }
+    for test in single_tests(sites, first) {
+        let both = [
+            Demand::Passes {
+                site: first,
+                test: *test,
+            },
+            Demand::Passes {
+                site: second,
+                test: *test,
+            },
+        ];
+        rows.push(Row::new(both.to_vec(alloc)?))?;
     }
     Ok(())
 }

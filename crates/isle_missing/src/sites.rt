@@ -1,6 +1,6 @@
 //! What is known of the tests of sites.
-ghost use Rattle.std.specs.Prelude.{◌≡◌};
-ghost use Rattle.isle_missing.specs.Sites.{all_tests, single_tests, is_single};
+ghost use Rattle.std.specs.Prelude.{◌≡◌, option_map};
+ghost use Rattle.isle_missing.specs.Sites.{numbers, is_listed, all_tests, single_tests, is_single};
 
 use crate::ids::{SiteId, TestId};
 use std::marker::Model;
@@ -8,45 +8,49 @@ use std::marker::Model;
 /// What is known of the tests of a site.
 #[derive(Drop)]
 pub struct SiteTests {
-    all: Option<usize>,
-    single: Vec<bool>,
+    all: Option<Vec<TestId>>,
+    single: Vec<TestId>,
 }
 
 impl Model for SiteTests {
-    ghost use Rattle.isle_missing.specs.Sites.{KnownTests};
+    ghost use Rattle.std.specs.Prelude.{option_map};
+    ghost use Rattle.isle_missing.specs.Sites.{KnownTests, numbers};
 
     ghost Value = { KnownTests };
 
-    ghost view = { λ tests. record { all = tests.all; single = tests.single.items } };
+    ghost view = { λ tests. record { all = option_map (λ all. numbers all.items) tests.all; single = numbers tests.single.items } };
 }
 
 impl SiteTests {
-    /// `all` is how many tests there are, where each value of the site passes one of them. `single` says of each test by its number
-    /// whether only one value passes it.
-    pub fn new(all: Option<usize>, single: Vec<bool>) -> SiteTests
-        ensures { result ≡ record { all = all; single = single.items } }
+    /// `all` are tests of which each value of the site passes one, where they are known. `single` are tests that only one value passes, of
+    /// those that are asked here. Other tests are taken to be passed by many.
+    pub fn new(all: Option<Vec<TestId>>, single: Vec<TestId>) -> SiteTests
+        ensures { result ≡ record { all = option_map (λ tests. numbers tests.items) all; single = numbers single.items } }
     {
         SiteTests { all, single }
     }
 
-    /// How many tests there are, where each value passes one.
-    pub fn all(&self) -> Option<usize>
-        ensures { result ≡ self.now.all }
+    /// Tests of which each value passes one.
+    pub fn all(&self) -> Option<&[TestId]>
+        ensures { option_map (λ tests. numbers tests.now) result ≡ self.now.all }
     {
-        self.all
+        match &self.all {
+            Some(tests) => Some(tests.as_slice()),
+            None => None,
+        }
     }
 
-    /// Of each test, whether only one value passes it.
-    pub fn single(&self) -> &[bool]
-        ensures { result.now ≡ self.now.single }
+    /// Tests that only one value passes.
+    pub fn single(&self) -> &[TestId]
+        ensures { numbers result.now ≡ self.now.single }
     {
         self.single.as_slice()
     }
 }
 
-/// How many tests a site has, where each value there passes one.
-pub(crate) fn all_tests(sites: &[SiteTests], site: SiteId) -> Option<usize>
-    ensures { result ≡ all_tests sites.now site.0 }
+/// Tests of which each value of a site passes one.
+pub(crate) fn all_tests(sites: &[SiteTests], site: SiteId) -> Option<&[TestId]>
+    ensures { option_map (λ tests. numbers tests.now) result ≡ all_tests sites.now site.0 }
 {
     match sites.get(site.0) {
         Some(tests) => tests.all(),
@@ -54,9 +58,9 @@ pub(crate) fn all_tests(sites: &[SiteTests], site: SiteId) -> Option<usize>
     }
 }
 
-/// Of each test of a site, whether only one value passes it.
-pub(crate) fn single_tests(sites: &[SiteTests], site: SiteId) -> &[bool]
-    ensures { result.now ≡ single_tests sites.now site.0 }
+/// Tests of a site that only one value passes.
+pub(crate) fn single_tests(sites: &[SiteTests], site: SiteId) -> &[TestId]
+    ensures { numbers result.now ≡ single_tests sites.now site.0 }
 {
     match sites.get(site.0) {
         Some(tests) => tests.single(),
@@ -64,12 +68,16 @@ pub(crate) fn single_tests(sites: &[SiteTests], site: SiteId) -> &[bool]
     }
 }
 
+/// Whether a test is listed.
+pub(crate) fn is_listed(tests: &[TestId], test: TestId) -> bool
+    ensures { result ≡ is_listed (numbers tests.now) test.0 }
+{
+    tests.iter().any(|listed| listed.0 == test.0)
+}
+
 /// Whether only one value passes a test of a site.
 pub(crate) fn is_single(sites: &[SiteTests], site: SiteId, test: TestId) -> bool
     ensures { result ≡ is_single sites.now site.0 test.0 }
 {
-    match single_tests(sites, site).get(test.0) {
-        Some(single) => *single,
-        None => false,
-    }
+    is_listed(single_tests(sites, site), test)
 }

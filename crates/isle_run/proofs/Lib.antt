@@ -6,3 +6,5 @@ pub mod Chains
 pub mod Blocks
 -- Names in compiled programs are spelt as names.
 pub mod Naming
+-- Calls of covered terms, and calls that no rule matches.
+pub mod Covering

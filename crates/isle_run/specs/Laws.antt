@@ -20,3 +20,5 @@ pub mod Runs
 pub mod Trees
 -- Values of compiled programs, printed and read back.
 pub mod Printing
+-- Runs of covered terms, and of calls that no rule matches.
+pub mod Coverage

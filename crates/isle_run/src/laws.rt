@@ -1,6 +1,8 @@
 //! Laws of values, of calls and of compiled programs, each as a function whose contract states it.
 ghost use Rattle.isle_run.specs.Laws.Compiled.{AcyclicProgramsAreNotSpent, CompiledMeaningsAreOne, FaultlessRulesHaveNoTies};
 ghost use Rattle.isle_run.specs.Laws.Compiled.{InhabitedProgramsHaveValues, PremisesCanBeMet};
+ghost use Rattle.isle_run.specs.Laws.Coverage.{runs_by_trees, runs_by_rules, CoveredTermsAreNotStuck, CoveredCallsAreNeverStuck};
+ghost use Rattle.isle_run.specs.Laws.Coverage.{CoveredCallsAreAnswered, MissedCallsAreNotAnswered};
 ghost use Rattle.isle_run.specs.Laws.Formatting.{FormattedTextsAreAlike};
 ghost use Rattle.isle_run.specs.Laws.Keeping.{KeptTextsAreAlike, KeptTextsAreAcceptedAlike, KeptProgramsMeanTheSame};
 ghost use Rattle.isle_meaning.specs.Laws.Order.{OrderMeansNothing};
@@ -160,4 +162,30 @@ pub fn runs_are_one()
     ensures by_rules { RunsByRulesAreOne }
     ensures by_trees_deeper { DeeperRunsByTreesAreOne }
     ensures by_rules_deeper { DeeperRunsByRulesAreOne }
+{}
+
+/// No run of a call of a compiled program is stuck at a covered term: one of whose rules one matches on any values of its types, whatever calls
+/// answer. It is so in any world, at any depth, where each type is inhabited; the call is of a term that can be run, on values of its types.
+pub fn covered_terms_are_not_stuck()
+    ensures by_trees { CoveredTermsAreNotStuck runs_by_trees }
+    ensures by_rules { CoveredTermsAreNotStuck runs_by_rules }
+{}
+
+/// No run of such a call is stuck at all where its term, and each with rules that it reaches, is covered or may fail.
+pub fn covered_calls_are_never_stuck()
+    ensures by_trees { CoveredCallsAreNeverStuck runs_by_trees }
+    ensures by_rules { CoveredCallsAreNeverStuck runs_by_rules }
+{}
+
+/// Each run of it is then answered, with a value or none, where no term reaches itself, the depth is at least the number of terms with rules, and
+/// the world answers as the declarations allow.
+pub fn covered_calls_are_answered()
+    ensures by_trees { CoveredCallsAreAnswered runs_by_trees }
+    ensures by_rules { CoveredCallsAreAnswered runs_by_rules }
+{}
+
+/// No run of a call that no rule matches, whatever calls answer, gives a value; where its term may not fail, each ends unanswered.
+pub fn missed_calls_are_not_answered()
+    ensures by_trees { MissedCallsAreNotAnswered runs_by_trees }
+    ensures by_rules { MissedCallsAreNotAnswered runs_by_rules }
 {}

@@ -4,6 +4,7 @@
 pub mod laws;
 
 pub use isle_calls::{Answer, Called, Choice, Effect, call, call_plain, trace, trace_plain};
+pub use isle_coverage::{Told, Verdict, coverage, missing_text, never_stuck};
 pub use isle_program::{Program, Refused, TermId, TypeId, compile};
 pub use isle_tell::{place_text, reasons, spaces, trees_graph, trees_text, warnings};
 pub use isle_values::{

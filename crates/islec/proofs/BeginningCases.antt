@@ -15,7 +15,7 @@ use Rattle.islec.specs.Writing.{AppendsBeginning}
 use Rattle.islec.specs.declared.cause.Cause.TheVariants.{Fails}
 use Rattle.islec.specs.declared.line.LineFault.TheVariants as line_fault
 use Rattle.islec.specs.declared.line.Misuse.{Misuse}
-use Rattle.islec.specs.declared.line.Misuse.TheVariants.{WritesInput}
+use Rattle.islec.specs.declared.line.Misuse.TheVariants.{WritesInput, JudgesNothing}
 use Rattle.islec.specs.declared.program.Unbegun.TheVariants.{Usage, Misused, NotText, CannotRead, Memory}
 use Rattle.islec.specs.declared.status.Status.{Status}
 use Rattle.islec.specs.declared.status.Status.TheVariants as status
@@ -153,6 +153,9 @@ full_disk_is_told = refl
 
 misuse_is_told : TellsUnbegun (Misused WritesInput) status.Usage one (Some (1 ∷ codes "error: standard input can't be written in place\n"))
 misuse_is_told = inr (refl, refl)
+
+judging_is_told : TellsUnbegun (Misused JudgesNothing) status.Usage one (Some (1 ∷ codes "error: --partial and --steps-at-most need --missing\n"))
+judging_is_told = inr (refl, refl)
 
 misuse_ends_not_well : (misuse : Misuse) (old new : Option (List ℕ)) → TellsUnbegun (Misused misuse) status.AllWell old new → ⊥
 misuse_ends_not_well misuse old new (inl other) = absurd cc

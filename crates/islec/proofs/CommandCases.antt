@@ -1,5 +1,5 @@
 -- What `islec` finds in words that are written out.
-use Rattle.std.proofs.Common.{◌≡◌, refl, List, [], ◌∷◌, Some, true, false, codes, option_map}
+use Rattle.std.proofs.Common.{◌≡◌, refl, List, [], ◌∷◌, Some, None, true, false, codes, option_map}
 use Rattle.clap.specs.Walk.{Text, all_of, first_of}
 use Rattle.clap.specs.Words.{fault_of, subcommand_of}
 use Rattle.clap.specs.declared.error.kind.ErrorKind.TheVariants as kind
@@ -36,6 +36,18 @@ check_flag : option_map (λ p. flag_of (codes "terms") p.1)
     (subcommand_of islec (codes "islec" ∷ codes "check" ∷ codes "--terms" ∷ codes "a.isle" ∷ [])) ≡ Some true
 unfolding clap_on_literals
 check_flag = refl
+
+-- a check that looks for calls without a rule within so many steps
+check_steps : option_map (λ p. number_of (codes "steps-at-most") p.1)
+    (subcommand_of islec (codes "islec" ∷ codes "check" ∷ codes "--missing" ∷ codes "--steps-at-most" ∷ codes "7" ∷ codes "a.isle" ∷ [])) ≡ Some
+    (Some 7)
+unfolding clap_on_literals
+check_steps = refl
+
+no_steps : option_map (λ p. number_of (codes "steps-at-most") p.1)
+    (subcommand_of islec (codes "islec" ∷ codes "check" ∷ codes "--missing" ∷ codes "a.isle" ∷ [])) ≡ Some None
+unfolding clap_on_literals
+no_steps = refl
 
 fmt_width : option_map (λ p. number_of (codes "width") p.1) (subcommand_of islec (codes "islec" ∷ codes "fmt" ∷ codes "a.isle" ∷ [])) ≡ Some (Some 80)
 unfolding clap_on_literals

@@ -79,10 +79,19 @@ check_own = (
     (
       record { own = refl; keeps = omega arith; wants = unset _ refl; default = unset _ refl },
       (
-        record { own = refl; keeps = omega arith; wants = λ e. omega arith; default = λ e. omega arith },
+        record { own = refl; keeps = omega arith; wants = unset _ refl; default = unset _ refl },
         (
-          record { own = refl; keeps = tt; wants = unset _ refl; default = unset _ refl },
-          tt,
+          record { own = refl; keeps = omega arith; wants = unset _ refl; default = unset _ refl },
+          (
+            record { own = refl; keeps = omega arith; wants = λ e. omega arith; default = λ e. omega arith },
+            (
+              record { own = refl; keeps = omega arith; wants = λ e. omega arith; default = λ e. omega arith },
+              (
+                record { own = refl; keeps = tt; wants = unset _ refl; default = unset _ refl },
+                tt,
+              ),
+            ),
+          ),
         ),
       ),
     ),
@@ -346,10 +355,16 @@ pub refused : (words : List Text) (e : Error) (r : Result Line LineFault) → Is
 refused words e (Ok line) is h = tt
 refused words e (Err fault) is h = refuses words e fault is h
 
--- options that don't go together, of `fmt` that was met
-pub misuse_refuses : (words : List Text) (m : ArgMatches) (rows : List Row) (r : Result Line LineFault) → Parses words m
-    → subcommand_rows_of m ≡ Some (codes "fmt", rows) → IfErr r (IsMisused rows) → IfErr r (RefusesLine words)
-misuse_refuses words m rows (Ok line) parsed is h = tt
-misuse_refuses words m rows (Err (Usage e)) parsed is h = absurd h
-misuse_refuses words m rows (Err (Misuse x)) parsed is h = (parsed.taken, rows, sym parsed.met ∙ is, h)
-misuse_refuses words m rows (Err (Memory a)) parsed is h = tt
+-- options that don't go together, of a command that was met
+pub misuse_refuses : (words : List Text) (m : ArgMatches) (name : Text) (rows : List Row) (r : Result Line LineFault) → Parses words m
+    → subcommand_rows_of m ≡ Some (name, rows) → IfErr r (IsMisused name rows) → IfErr r (RefusesLine words)
+misuse_refuses words m name rows (Ok line) parsed is h = tt
+misuse_refuses words m name rows (Err (Usage e)) parsed is h = absurd h
+misuse_refuses words m name rows (Err (Misuse x)) parsed is h = record {
+  taken = parsed.taken;
+  name = name;
+  rows = rows;
+  met = sym parsed.met ∙ is;
+  misused = h;
+}
+misuse_refuses words m name rows (Err (Memory a)) parsed is h = tt

@@ -81,8 +81,8 @@ alone_is_not_well gives input left old new before after (told (Usage e) holds st
 alone_is_not_well gives input left old new before after (told (Usage e) holds status.SomeRefused code tells stays) = absurd cc
 alone_is_not_well gives input left old new before after (told (Usage e) holds status.InputOutput code tells stays) = absurd cc
 alone_is_not_well gives input left old new before after (told (Usage e) holds status.OutOfMemory code tells stays) = absurd cc
-alone_is_not_well gives input left old new before after (told (Misused m) (taken, rows, met, why) ended code tells stays) =
-    let wrong = sym taken ∙ alone_lacks_a_command in absurd cc
+alone_is_not_well gives input left old new before after (told (Misused m) holds ended code tells stays) =
+    let wrong = sym holds.taken ∙ alone_lacks_a_command in absurd cc
 alone_is_not_well gives input left old new before after (told NotText holds ended code tells stays) = absurd holds
 alone_is_not_well gives input left old new before after (told (CannotRead name words) (line, reads, why) ended code tells stays) =
     let wrong = sym reads.taken ∙ alone_lacks_a_command in absurd cc
@@ -100,7 +100,7 @@ run_names_its_files line files reads named =
 world_is : (job : Job) (name : Text) (rows : List Row) → subcommand_of islec run_words ≡ Some (name, rows) → SaysJob name rows job
     → world_of job rows ≡ Some (codes "w.isle")
 world_is (Run manner) name rows met says = same_Some _ _ (sym (ap (option_map (λ p. first_of (codes "world") p.1)) met) ∙ run_world)
-world_is (Check telling) name rows met (named, flag, warned, explained) =
+world_is (Check telling) name rows met (named, flag, warned, explained, judged) =
     let is_run = same_Some _ _ (sym (ap (option_map (λ p. p.0)) met) ∙ run_name) in
     let wrong : true ≡ false = ap (λ (text : Text). bytes_eq text (codes "run")) (sym is_run ∙ named) in
     absurd (true≢false wrong)

@@ -6,6 +6,8 @@ pub mod PrintsLemmas
 pub mod RefusedFiles
 -- How jobs end, by what their parts promise.
 pub mod JobLemmas
+-- What is told of the calls of terms one after another.
+pub mod MissingLemmas
 -- What is written of a call's parts, and what a refused or an answered query is written.
 pub mod ReplyLemmas
 -- Lines of bytes as a reader gives them.
@@ -48,5 +50,9 @@ pub mod BeginningCases
 pub mod DrawingCases
 -- Which files are standard input, what they take of it, and what is told of files that are formatted or not, case by case.
 pub mod InputCases
+-- How `fmt --keep --write` ends, by which files are put in their place, case by case.
+pub mod FormattingCases
 -- What is told of faults with their reasons and without, and of a depth that is used up, case by case.
 pub mod ReasonCases
+-- What is told of the calls of terms, and when the last line may stand, case by case.
+pub mod MissingCases

@@ -78,7 +78,7 @@ module _ (files all : List SourceFile) (refused : Refused) (report : Report) (ol
 module _ (files all : List SourceFile) (same : files ≡ all) (program : Program) (is : IsProgramOf files program)
     (accepted : AreAccepted files) (telling : Telling)
     (old new : Option (List ℕ)) where
-  pub accepts_by : (r : Result Status ServeFault) → OnOk r ((text : List ℕ) × TellsChecked program telling text × Appends old new text)
+  pub accepts_by : (r : Result Status ServeFault) → OnOk r ((text : List ℕ) × TellsChecked files program telling text × Appends old new text)
       → IfOk r (λ s. s ≡ AllWell → WritesAccepted all telling old new)
   accepts_by (Err f) told = tt
   accepts_by (Ok s) told = λ _. record {
@@ -86,15 +86,16 @@ module _ (files all : List SourceFile) (same : files ≡ all) (program : Program
     program = program;
     is = subst (λ l. IsProgramOf l program) same is;
     text = told.0;
-    told = told.1;
+    told = subst (λ l. TellsChecked l program telling told.0) same told.1;
     written = told.2;
   }
 
-  pub tells_cut : (r : Result Status ServeFault) → IfErr r (λ f. f ≢ Memory → (text : List ℕ) × TellsChecked program telling text
+  pub tells_cut : (r : Result Status ServeFault) → IfErr r (λ f. f ≢ Memory → (text : List ℕ) × TellsChecked files program telling text
       × AppendsBeginning old new text)
       → IfErr r (λ f. f ≢ Memory → CutsCheck all telling old new)
   tells_cut (Ok s) told = tt
-  tells_cut (Err f) told = λ e. inl (program, subst (λ l. IsProgramOf l program) same is, told e)
+  tells_cut (Err f) told = λ e. let (text, tells, cut) = told e in
+      inl (program, subst (λ l. IsProgramOf l program) same is, (text, subst (λ l. TellsChecked l program telling text) same tells, cut))
 
 -- nothing is written
 pub nothing_by : (files : List SourceFile) (world : SourceFile) (manner : Manner) (input left old new : Option (List ℕ))

@@ -1,10 +1,10 @@
 -- The values that each command's rows hold.
 use Rattle.std.proofs.Common.{◌≡◌, ◌∙◌, ◌<◌, ◌≤◌, ◌||◌, ◌⊎◌, inl, inr, ℕ, Bool, true, false, refl, sym, ap, List, [], ◌∷◌, Option, Some, None}
-use Rattle.std.proofs.Common.{Result, Ok, Err, is_some, true≢false, length, map, arith, slice_get, pos}
+use Rattle.std.proofs.Common.{Result, Ok, Err, is_some, true≢false, length, map, arith, slice_get, pos, cond, subst}
 use Rattle.std.specs.Global.{Global}
 use Rattle.std.specs.Prelude.{String, Vec, string_bytes, vec_items, vec_len, codes, unwrap_or, option_map, option_and_then}
 use Rattle.std.specs.Borrow.{Bor}
-use Rattle.std.specs.List.{list_all, slice_index_or}
+use Rattle.std.specs.List.{find, list_all, slice_index_or}
 use Rattle.std.specs.Option.{option_map_or}
 use Rattle.std.specs.Str.{bytes_eq}
 use Rattle.std.specs.Str.Parse.{ParsesUnsigned, digits_value, without_leading_plus}
@@ -52,6 +52,16 @@ all_reads : (c : List Rule) (a : Rule) (rows : List Row) → arg_by_id c a.id �
 all_reads c a rows own fits has =
     let r = row_of_rule c a rows own fits has in
     (r.0.values, ap (option_map (λ (x : Row). x.values)) r.1, r.2.filled, r.2.most)
+
+-- an argument that has a first value has a row
+one_has_row : (id : Text) (rows : List Row) (t : Text) → one_of id rows ≡ Some t → has_row id rows ≡ true
+one_has_row id [] t is = absurd (true≢false (sym (ap is_some is)))
+one_has_row id (r ∷ rs) t is = go (bytes_eq r.id id) is (one_has_row id rs t)
+  where
+    go : (b : Bool) → option_and_then row_text (cond b (Some r) (find (λ x. bytes_eq x.id id) rs)) ≡ Some t
+        → (one_of id rs ≡ Some t → has_row id rs ≡ true) → (b || has_row id rs) ≡ true
+    go true is rest = refl
+    go false is rest = rest is
 
 -- a word for a truth value is `true` or `false`
 bool_word : (o : Option Text) (v : Text) → o ≡ Some v → (bytes_eq v (codes "true") || bytes_eq v (codes "false")) ≡ true
@@ -118,8 +128,26 @@ pub check_explain : (rows : List Row) → FillsRules check_rules rows
 check_explain rows f = let v = one_reads check_rules (rule check_rules 2) rows refl f.fits (f.whole.1.1.0 (inr (omega arith))) in
     bool_word _ v.0 v.1 v.2
 
+pub check_missing : (rows : List Row) → FillsRules check_rules rows
+    → (one_of (codes "missing") rows ≡ Some (codes "true")) ⊎ (one_of (codes "missing") rows ≡ Some (codes "false"))
+check_missing rows f = let v = one_reads check_rules (rule check_rules 3) rows refl f.fits (f.whole.1.1.1.0 (inr (omega arith))) in
+    bool_word _ v.0 v.1 v.2
+
+pub check_partial : (rows : List Row) → FillsRules check_rules rows
+    → (one_of (codes "partial") rows ≡ Some (codes "true")) ⊎ (one_of (codes "partial") rows ≡ Some (codes "false"))
+check_partial rows f = let v = one_reads check_rules (rule check_rules 4) rows refl f.fits (f.whole.1.1.1.1.0 (inr (omega arith))) in
+    bool_word _ v.0 v.1 v.2
+
+-- a number of steps that was given
+check_steps : (rows : List Row) (t : Text) → FillsRules check_rules rows → one_of (codes "steps-at-most") rows ≡ Some t
+    → IsUnsignedIn 0 18446744073709551615 t
+check_steps rows t f is =
+    let v = one_reads check_rules (rule check_rules 5) rows refl f.fits (one_has_row (codes "steps-at-most") rows t is) in
+    let same : v.0 ≡ t = ap (λ (o : Option Text). unwrap_or o t) (sym v.1 ∙ is) in
+    subst (IsUnsignedIn 0 18446744073709551615) same v.2
+
 pub check_files : (rows : List Row) → FillsRules check_rules rows → (vs : List Text) × (all_of (codes "file") rows ≡ Some vs) × (0 < length vs)
-check_files rows f = let v = all_reads check_rules (rule check_rules 3) rows refl f.fits (f.whole.1.1.1.0 (inl refl)) in (v.0, v.1, v.2)
+check_files rows f = let v = all_reads check_rules (rule check_rules 6) rows refl f.fits (f.whole.1.1.1.1.1.1.0 (inl refl)) in (v.0, v.1, v.2)
 
 -- ---- blocks
 
@@ -176,6 +204,12 @@ pub unsigned_number : {E : Type 0} (G : List ℕ → Result ℕ E → Type 0) (v
 unsigned_number G v None read only passed = absurd (only v (Err read.0) read.1 (passed.0, let most = passed.3 in omega arith))
 unsigned_number G v (Some n) read only passed = ap Some (only v (Ok n) read).1
 
+steps_number : {E : Type 0} (G : List ℕ → Result ℕ E → Type 0) (v : List ℕ) (r : Option ℕ) → ReadsOne G v r
+    → ((u : List ℕ) (x : Result ℕ E) → G u x → ParsesUnsigned 64 10 u x)
+    → IsUnsignedIn 0 18446744073709551615 v → r ≡ Some (digits_value 10 (without_leading_plus v))
+steps_number G v None read only passed = absurd (only v (Err read.0) read.1 (passed.0, passed.1))
+steps_number G v (Some n) read only passed = ap Some (only v (Ok n) read).1
+
 -- ---- what the getters give
 
 -- the number that a getter read
@@ -192,6 +226,18 @@ width_is f G r fills reads only =
     let v = fmt_width (rows_of f) fills in
     let read = reads v.0 (one_text-rows f (codes "width") ∙ v.1) in
     ap (option_map (λ t. digits_value 10 (without_leading_plus t))) v.1 ∙ sym (unsigned_number G v.0 r read only v.2)
+
+pub steps_are : {E : Type 0} (f : Found) (G : List ℕ → Result ℕ E → Type 0) (r : Option ℕ) → FillsRules check_rules (rows_of f)
+    → (one_text f (codes "steps-at-most") ≡ None → r ≡ None)
+    → ((t : List ℕ) → one_text f (codes "steps-at-most") ≡ Some t → ReadsOne G t r)
+    → ((u : List ℕ) (x : Result ℕ E) → G u x → ParsesUnsigned 64 10 u x) → number_of (codes "steps-at-most") (rows_of f) ≡ r
+steps_are f G r fills none reads only = go (one_of (codes "steps-at-most") (rows_of f)) refl
+  where
+    go : (o : Option Text) → one_of (codes "steps-at-most") (rows_of f) ≡ o → number_of (codes "steps-at-most") (rows_of f) ≡ r
+    go None is = ap (option_map (λ t. digits_value 10 (without_leading_plus t))) is
+        ∙ sym (none (one_text-rows f (codes "steps-at-most") ∙ is))
+    go (Some t) is = ap (option_map (λ t. digits_value 10 (without_leading_plus t))) is
+        ∙ sym (steps_number G t r (reads t (one_text-rows f (codes "steps-at-most") ∙ is)) only (check_steps (rows_of f) t fills is))
 
 -- the number of an argument that has a row is there
 pub has_depth : (rows : List Row) → FillsRules run_rules rows → number_of (codes "depth") rows ≡ None → ⊥

@@ -16,7 +16,7 @@ use Rattle.islec.specs.declared.cause.Cause.TheVariants.{NotUtf8, Fails}
 use Rattle.islec.specs.declared.line.LineFault.{LineFault}
 use Rattle.islec.specs.declared.line.LineFault.TheVariants as line_fault
 use Rattle.islec.specs.declared.line.Misuse.{Misuse}
-use Rattle.islec.specs.declared.line.Misuse.TheVariants.{Loses, WritesAndTells, WritesInput}
+use Rattle.islec.specs.declared.line.Misuse.TheVariants.{Loses, WritesAndTells, WritesInput, JudgesNothing}
 use Rattle.islec.specs.declared.program.Unbegun.{Unbegun}
 use Rattle.islec.specs.declared.program.Unbegun.TheVariants.{Usage, Misused, NotText, CannotRead, Memory}
 use Rattle.islec.specs.declared.status.Status.{Status}
@@ -61,11 +61,12 @@ IsUnreadWorld gives name unbegun =
 abbrev pub AsksForHelp : Error → Type 0
 AsksForHelp error = (kind_of error ≡ DisplayHelp) ⊎ (kind_of error ≡ DisplayVersion)
 
--- the line that tells why options of `fmt` don't go together
+-- the line that tells why options don't go together
 abbrev pub misuse_text : Misuse → List ℕ
 misuse_text Loses = codes "error: --diff and --write need --keep, so that nothing is lost\n"
 misuse_text WritesAndTells = codes "error: --write can't be used with --check or --diff\n"
 misuse_text WritesInput = codes "error: standard input can't be written in place\n"
+misuse_text JudgesNothing = codes "error: --partial and --steps-at-most need --missing\n"
 
 -- the status of a command that was not begun, and what is written of it where no write fails: all is well where help was asked for, else
 -- the words are refused, or a file can't be read, or memory ran out; a write that fails has a status of its own

@@ -54,6 +54,22 @@ terms = record (new_rule (codes "terms")) { long = Some (codes "terms"); action 
 abbrev pub warn : Rule
 warn = record (new_rule (codes "warn")) { long = Some (codes "warn"); action = Some SetTrue }
 
+-- `--missing`
+abbrev pub missing : Rule
+missing = record (new_rule (codes "missing")) { long = Some (codes "missing"); action = Some SetTrue }
+
+-- `--partial`
+abbrev pub partial : Rule
+partial = record (new_rule (codes "partial")) { long = Some (codes "partial"); action = Some SetTrue }
+
+-- `--steps-at-most N`: a number of 64 bits, which may be left out
+abbrev pub steps_at_most : Rule
+steps_at_most = record (new_rule (codes "steps-at-most")) {
+  long = Some (codes "steps-at-most");
+  value_names = 1;
+  parser = Some (Unsigned 0 18446744073709551615);
+}
+
 -- `--term NAME`, any number of times
 abbrev pub term : Rule
 term = record (new_rule (codes "term")) { long = Some (codes "term"); value_names = 1; action = Some Append }
@@ -101,9 +117,10 @@ abbrev pub run : App
 run = with_rule (with_rule (with_rule (with_rule (with_rule (with_rule (with_rule (with_rule (with_rule (new_app (codes "run")) world) depth) plain)
     steps) trace) coverage) unanswered) explain) rule_files
 
--- `check`, with `--terms`, `--warn`, `--explain` and files
+-- `check`, with `--terms`, `--warn`, `--explain`, `--missing`, `--partial`, a number of steps and files
 abbrev pub check : App
-check = with_rule (with_rule (with_rule (with_rule (new_app (codes "check")) terms) warn) explain) rule_files
+check = with_rule (with_rule (with_rule (with_rule (with_rule (with_rule (with_rule (new_app (codes "check")) terms) warn) explain) missing) partial)
+    steps_at_most) rule_files
 
 -- `blocks`, with names of terms, `--dot` and files
 abbrev pub blocks : App

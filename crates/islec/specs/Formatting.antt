@@ -1,5 +1,5 @@
 -- What becomes of files that are laid out.
-use Rattle.std.specs.Prelude.{◌≡◌, ◌⊎◌, ℕ, suc, Bool, true, false, List, [], ◌∷◌, ◌++◌, Option, Result, Ok, Err, if◌then◌else◌, codes}
+use Rattle.std.specs.Prelude.{◌≡◌, ◌≢◌, ◌⊎◌, ℕ, suc, Bool, true, false, List, [], ◌∷◌, ◌++◌, Option, Result, Ok, Err, if◌then◌else◌, codes}
 use Rattle.std.specs.Str.{bytes_eq}
 use Rattle.std.specs.Io.KnownBytes.{Appends, Keeps}
 use Rattle.std.specs.declared.io.ErrorKind.{ErrorKind}
@@ -62,14 +62,14 @@ abbrev pub status_behind : Output → (told : List ℕ) → Status
 status_behind output [] = AllWell
 status_behind output (byte ∷ told) = if refuses output then TextsRefused else AllWell
 
--- a writer that held `old` holds these bytes and behind them what is told of the files with this status
+-- where files aren't to be put in place: a writer that held `old` holds these bytes and behind them what is told of the files with this status
 abbrev pub WritesTold : Printing → List SourceFile → (old new : Option (List ℕ)) → Status → Type 0
-WritesTold printing files old new status = (prints : List (List ℕ)) × HavePrints printing files prints
+WritesTold printing files old new status = (printing.output ≢ Places) × (prints : List (List ℕ)) × HavePrints printing files prints
     × (told : List ℕ) × TellsEach printing.output files prints told × (status_behind printing.output told ≡ status) × Appends old new told
 
 -- or a beginning of that
 abbrev pub CutsTold : Printing → List SourceFile → (old new : Option (List ℕ)) → Type 0
-CutsTold printing files old new = (prints : List (List ℕ)) × HavePrints printing files prints
+CutsTold printing files old new = (printing.output ≢ Places) × (prints : List (List ℕ)) × HavePrints printing files prints
     × (told : List ℕ) × TellsEach printing.output files prints told × AppendsBeginning old new told
 
 -- a writer that held `old` holds these bytes and behind them the report of one error, the fault of the first text that isn't spelt

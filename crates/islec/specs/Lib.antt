@@ -20,6 +20,8 @@ pub mod Serving
 pub mod Faults
 -- What is printed of a world that is refused.
 pub mod Worlds
+-- What a check tells of calls that no rule matches.
+pub mod Missing
 -- What a check writes of a program.
 pub mod Terms
 -- What is written of the trees of a program's rules.

@@ -1,5 +1,6 @@
 -- What the words of a command line say.
-use Rattle.std.specs.Prelude.{◌≡◌, ◌||◌, if◌then◌else◌, ℕ, Bool, true, List, [], Option, Some, None, Vec, String, map, codes, false, option_map, string_bytes, vec_items, unwrap_or, ⊤}
+use Rattle.std.specs.Prelude.{◌≡◌, ◌⊎◌, ◌||◌, if◌then◌else◌, ℕ, Bool, true, List, [], Option, Some, None, Vec, String, map, codes, false, option_map, string_bytes, vec_items, unwrap_or, ⊤}
+use Rattle.std.specs.Prelude.{Result, Ok, Err, is_some}
 use Rattle.std.specs.Global.{Global}
 use Rattle.std.specs.List.{list_any}
 use Rattle.std.specs.Option.{option_map_or}
@@ -14,7 +15,8 @@ use Rattle.islec.specs.declared.line.LineFault.{LineFault}
 use Rattle.islec.specs.declared.line.LineFault.TheVariants.{Usage, Memory}
 use Rattle.islec.specs.declared.line.LineFault.TheVariants as line_fault
 use Rattle.islec.specs.declared.line.Misuse.{Misuse}
-use Rattle.islec.specs.declared.line.Misuse.TheVariants.{Loses, WritesAndTells, WritesInput}
+use Rattle.islec.specs.declared.line.Misuse.TheVariants.{Loses, WritesAndTells, WritesInput, JudgesNothing}
+use Rattle.islec.specs.declared.missing.Judging.{Judging}
 use Rattle.islec.specs.declared.format.Output.{Output}
 use Rattle.islec.specs.declared.format.Output.TheVariants.{Prints, Names, Changes, Places}
 
@@ -57,6 +59,26 @@ abbrev pub misuse_in : List Row → Option Misuse
 misuse_in rows = misuse_of (flag_of (codes "keep") rows) (flag_of (codes "check") rows) (flag_of (codes "diff") rows) (flag_of (codes "write") rows)
     (has_input (each_of (codes "file") rows))
 
+-- how many looks at a rule one term may take where no number is given
+abbrev pub usual_steps : ℕ
+usual_steps = 10000000
+
+-- how calls are judged where `--missing`, `--partial` and a number of steps are given or not, or why these don't go together: the others need
+-- `--missing`
+abbrev pub judging_of : (missing partial : Bool) → (steps : Option ℕ) → Result (Option Judging) Misuse
+judging_of false partial steps = if partial || is_some steps then Err JudgesNothing else Ok None
+judging_of true partial steps = Ok (Some (record { partial = partial; steps = unwrap_or steps usual_steps }))
+
+-- how calls are judged by the options of `check` that rows hold
+abbrev pub judging_in : List Row → Result (Option Judging) Misuse
+judging_in rows =
+    judging_of (flag_of (codes "missing") rows) (flag_of (codes "partial") rows) (number_of (codes "steps-at-most") rows)
+
+-- why the options of the command of a name don't go together
+abbrev pub IsMisuseOf : Text → List Row → Misuse → Type 0
+IsMisuseOf name rows misuse =
+    ((name ≡ codes "fmt") × (misuse_in rows ≡ Some misuse)) ⊎ ((name ≡ codes "check") × (judging_in rows ≡ Err misuse))
+
 -- the job is the command of this name, with the numbers and flags that its rows hold
 abbrev pub SaysJob : Text → List Row → Job → Type 0
 SaysJob name rows (Run manner) =
@@ -66,7 +88,7 @@ SaysJob name rows (Run manner) =
     × (flag_of (codes "explain") rows ≡ manner.explain)
 SaysJob name rows (Check telling) =
     (name ≡ codes "check") × (flag_of (codes "terms") rows ≡ telling.terms) × (flag_of (codes "warn") rows ≡ telling.warn)
-    × (flag_of (codes "explain") rows ≡ telling.explain)
+    × (flag_of (codes "explain") rows ≡ telling.explain) × (judging_in rows ≡ Ok telling.missing)
 SaysJob name rows (Blocks terms dot) =
     (name ≡ codes "blocks") × (each_of (codes "term") rows ≡ names_of terms) × (flag_of (codes "dot") rows ≡ dot)
 SaysJob name rows (Fmt printing) =
@@ -93,10 +115,13 @@ pub record ReadsLine (words : List Text) (line : Line) : Type 0 where
   pub met : subcommand_of islec words ≡ Some (name, rows)
   pub says : SaysLine name rows line
 
--- the words are `fmt` with options that don't go together, for this reason
-abbrev pub Misuses : List Text → Misuse → Type 0
-Misuses words misuse = (fault_of islec words ≡ []) × (rows : List Row) × (subcommand_of islec words ≡ Some (codes "fmt", rows))
-    × (misuse_in rows ≡ Some misuse)
+-- the words are a command with options that don't go together, for this reason
+pub record Misuses (words : List Text) (misuse : Misuse) : Type 0 where
+  pub taken : fault_of islec words ≡ []
+  pub name : Text
+  pub rows : List Row
+  pub met : subcommand_of islec words ≡ Some (name, rows)
+  pub misused : IsMisuseOf name rows misuse
 
 -- a fault of usage is one that `islec` finds in the words, among them that they ask for help
 abbrev pub RefusesLine : List Text → LineFault → Type 0
@@ -104,8 +129,8 @@ RefusesLine words (Usage error) = IsAmong (kind_of error) (fault_of islec words)
 RefusesLine words (line_fault.Misuse misuse) = Misuses words misuse
 RefusesLine words (Memory error) = ⊤
 
--- rows of `fmt` are refused only for options that don't go together, or for want of memory
-abbrev pub IsMisused : List Row → LineFault → Type 0
-IsMisused rows (Usage error) = ⊥
-IsMisused rows (line_fault.Misuse misuse) = misuse_in rows ≡ Some misuse
-IsMisused rows (Memory error) = ⊤
+-- rows of the command of a name are refused only for options that don't go together, or for want of memory
+abbrev pub IsMisused : Text → List Row → LineFault → Type 0
+IsMisused name rows (Usage error) = ⊥
+IsMisused name rows (line_fault.Misuse misuse) = IsMisuseOf name rows misuse
+IsMisused name rows (Memory error) = ⊤

@@ -37,9 +37,9 @@ pub record CutsFaults (asked : Bool) (files : List SourceFile) (old new : Option
   pub written : AppendsBeginning old new text
 
 -- what a check tells of a program: what is told of it, and behind that lines of warnings where these are asked for
-abbrev pub TellsChecked : Program → Telling → List ℕ → Type 0
-TellsChecked program telling text =
-    (told lines : List ℕ) × TellsProgram program telling told × (telling.warn ≡ false → lines ≡ []) × (text ≡ told ++ lines)
+abbrev pub TellsChecked : List SourceFile → Program → Telling → List ℕ → Type 0
+TellsChecked files program telling text =
+    (told lines : List ℕ) × TellsProgram files program telling told × (telling.warn ≡ false → lines ≡ []) × (text ≡ told ++ lines)
 
 -- the files are accepted, and a writer that held `old` holds these bytes and behind them what a check tells of their program
 pub record WritesAccepted (files : List SourceFile) (telling : Telling) (old new : Option (List ℕ)) : Type 0 where
@@ -47,13 +47,13 @@ pub record WritesAccepted (files : List SourceFile) (telling : Telling) (old new
   pub program : Program
   pub is : IsProgramOf files program
   pub text : List ℕ
-  pub told : TellsChecked program telling text
+  pub told : TellsChecked files program telling text
   pub written : Appends old new text
 
 -- a beginning of what a check tells of the files' program is written, or one of what is printed of faults
 abbrev pub CutsCheck : List SourceFile → Telling → (old new : Option (List ℕ)) → Type 0
 CutsCheck files telling old new = ((program : Program) × IsProgramOf files program
-    × ((text : List ℕ) × TellsChecked program telling text × AppendsBeginning old new text))
+    × ((text : List ℕ) × TellsChecked files program telling text × AppendsBeginning old new text))
     ⊎ CutsFaults telling.explain files old new
 
 -- a table answers an effect as it answers pure terms, and stays as it is

@@ -1,5 +1,6 @@
 -- What a check writes of a program.
 use Rattle.std.specs.Prelude.{◌≡◌, ◌++◌, ℕ, Bool, true, false, List, [], ◌∷◌, codes, decimal}
+use Rattle.isle_ast.specs.Positions.Files.{SourceFile}
 use Rattle.isle_types.specs.declared.ids.TermId.{TermId}
 use Rattle.isle_program.specs.declared.program.Program.{Program}
 use Rattle.isle_program.specs.Programs.{term_name, types_of, terms_of, rule_sets_of}
@@ -7,6 +8,7 @@ use Rattle.isle_program.specs.Facts.Asked.{AreRoots}
 use Rattle.isle_program.specs.Facts.Inhabited.{AreAllInhabited}
 use Rattle.isle_program.specs.Facts.Reach.{IsRunnable}
 use Rattle.isle_program.specs.Facts.Steps.{steps_in}
+use Rattle.islec.specs.Missing.{TellsMissing}
 use Rattle.islec.specs.Reasons.{IsReason}
 use Rattle.islec.specs.declared.terms.Telling.{Telling}
 
@@ -45,10 +47,13 @@ abbrev pub TellsTerms : Program → (asked explained : Bool) → List ℕ → Ty
 TellsTerms program true explained lines = (terms : List TermId) × AreRoots (terms_of program) terms × AreTermLines explained program terms lines
 TellsTerms program false explained lines = lines ≡ []
 
--- what a check writes of an accepted program: that it is accepted, whether some type has no value, and the lines of its terms
-pub record TellsProgram (program : Program) (telling : Telling) (text : List ℕ) : Type 0 where
+-- what a check writes of an accepted program: that it is accepted, whether some type has no value, the lines of its terms, and calls that no
+-- rule matches
+pub record TellsProgram (files : List SourceFile) (program : Program) (telling : Telling) (text : List ℕ) : Type 0 where
   pub note : List ℕ
   pub lines : List ℕ
-  pub is : text ≡ codes "accepted\n" ++ (note ++ lines)
+  pub calls : List ℕ
+  pub is : text ≡ codes "accepted\n" ++ (note ++ (lines ++ calls))
   pub types : NotesTypes program note
   pub terms : TellsTerms program telling.terms telling.explain lines
+  pub missing : TellsMissing files program telling.missing calls

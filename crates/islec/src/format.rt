@@ -150,7 +150,8 @@ fn tell<W: Write>(
     prints: &[String],
     writer: &mut W,
 ) -> Result<Status, ServeFault>
-    requires { HavePrints printing files.now (map string_bytes prints.now) }
+    requires prints { HavePrints printing files.now (map string_bytes prints.now) }
+    requires output { printing.output ≢ Output.Places }
     ensures told { IfOk result (WritesTold printing files.now (W.contents writer.old) (W.contents writer.new)) }
     ensures other { IfOk result (λ status. (status ≡ Status.AllWell) ⊎ (status ≡ Status.TextsRefused)) }
     ensures cut { IfErr result (λ fault. fault ≢ ServeFault.Memory → CutsTold printing files.now (W.contents writer.old) (W.contents writer.new)) }

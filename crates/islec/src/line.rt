@@ -10,13 +10,16 @@ ghost use Rattle.islec.specs.Commands.{IsArgument, IsCommand, blocks, blocks_rul
 ghost use Rattle.islec.specs.Commands.{depth as the_depth, plain as the_plain, rule_files as the_files, steps as the_steps};
 ghost use Rattle.islec.specs.Commands.{coverage as the_coverage, explain as the_explain, trace as the_trace, unanswered as the_unanswered};
 ghost use Rattle.islec.specs.Commands.{terms as the_terms, warn as the_warn, world as the_world};
+ghost use Rattle.islec.specs.Commands.{missing as the_missing, partial as the_partial, steps_at_most as the_steps_at_most};
 ghost use Rattle.islec.specs.Commands.{width as the_width, keep as the_keep, unformatted, diff as the_diff, write as the_write};
 ghost use Rattle.islec.specs.Commands.{fmt_rules, islec, run, run_rules};
 ghost use Rattle.islec.specs.Lines.{ReadsLine, RefusesLine, SaysLine, IsMisused, misuse_of as the_misuse_of, names_of, output_of as the_output_of};
+ghost use Rattle.islec.specs.Lines.{judging_of as the_judging_of};
 ghost use Rattle.islec.specs.Inside.Rows.{FillsRules};
 
 use crate::answer::Manner;
 use crate::format::{Output, Printing};
+use crate::missing::Judging;
 use crate::terms::Telling;
 use clap::builder::ValueParser;
 use clap::error::ErrorKind;
@@ -65,12 +68,12 @@ impl Job {
 pub enum LineFault {
     /// The words are no command, or ask for help or the version.
     Usage(Error),
-    /// Options of `fmt` that don't go together.
+    /// Options that don't go together.
     Misuse(Misuse),
     Memory(AllocError),
 }
 
-/// Why options of `fmt` don't go together.
+/// Why options don't go together, of `fmt` or of `check`.
 #[derive(Clone, Copy)]
 pub enum Misuse {
     /// `--diff` or `--write` without `--keep`.
@@ -79,6 +82,8 @@ pub enum Misuse {
     WritesAndTells,
     /// `--write` on standard input.
     WritesInput,
+    /// `--partial` or `--steps-at-most` without `--missing`.
+    JudgesNothing,
 }
 
 impl From<Error> for LineFault {
@@ -113,7 +118,7 @@ pub fn line_of<S: AsStr>(alloc: Global, words: &[S]) -> Result<Line, LineFault>
         return Ok(run_line(alloc, run)?);
     }
     if let Some(check) = matches.subcommand_matches("check") {
-        return Ok(check_line(alloc, check)?);
+        return check_line(alloc, check);
     }
     if let Some(blocks) = matches.subcommand_matches("blocks") {
         return Ok(blocks_line(alloc, blocks)?);
@@ -251,6 +256,9 @@ fn check_command<'a>(alloc: Global) -> Result<Command<'a>, AllocError>
             alloc,
             "Tell with --terms below each term that can't be run why",
         ))?
+        .arg(missing(alloc))?
+        .arg(partial(alloc))?
+        .arg(steps_at_most(alloc))?
         .arg(rule_files(
             alloc,
             "The rule files, compiled together in this order; - is standard input",
@@ -273,6 +281,38 @@ fn warn<'a>(alloc: Global) -> Arg<'a>
         .long("warn")
         .help("Tell what is likely to be a slip, as a variable that isn't used")
         .action(ArgAction::SetTrue)
+}
+
+fn missing<'a>(alloc: Global) -> Arg<'a>
+    ensures { IsArgument the_missing result }
+{
+    Arg::new(alloc, "missing")
+        .long("missing")
+        .help(
+            "Tell of each term with rules calls that no rule matches, and whether no call is ever stuck",
+        )
+        .action(ArgAction::SetTrue)
+}
+
+fn partial<'a>(alloc: Global) -> Arg<'a>
+    ensures { IsArgument the_partial result }
+{
+    Arg::new(alloc, "partial")
+        .long("partial")
+        .help("With --missing: tell of partial terms too")
+        .action(ArgAction::SetTrue)
+}
+
+fn steps_at_most<'a>(alloc: Global) -> Arg<'a>
+    ensures { IsArgument the_steps_at_most result }
+{
+    Arg::new(alloc, "steps-at-most")
+        .long("steps-at-most")
+        .value_name("N")
+        .help(
+            "With --missing: how many looks at a rule one term may take; 10000000 where it is left out",
+        )
+        .value_parser(clap::value_parser!(usize))
 }
 
 fn blocks_command<'a>(alloc: Global) -> Result<Command<'a>, AllocError>
@@ -409,24 +449,49 @@ fn run_line(alloc: Global, matches: &ArgMatches<'_>) -> Result<Line, AllocError>
     })
 }
 
-fn check_line(alloc: Global, matches: &ArgMatches<'_>) -> Result<Line, AllocError>
+fn check_line(alloc: Global, matches: &ArgMatches<'_>) -> Result<Line, LineFault>
     requires { FillsRules check_rules (rows_of (found_of matches.now)) }
     ensures files { IfOk result (λ line. HasFiles line.job (vec_len line.files)) }
     ensures says { IfOk result (λ line. SaysLine (codes "check") (rows_of (found_of matches.now)) line) }
+    ensures misused { IfErr result (IsMisused (codes "check") (rows_of (found_of matches.now))) }
 {
     let files = copies(alloc, matches.get_strs("file").unwrap_or(&[]))?;
     let terms = matches.get_flag("terms");
     let warn = matches.get_flag("warn");
     let explain = matches.get_flag("explain");
-    Ok(Line {
-        job: Job::Check(Telling {
-            terms,
-            warn,
-            explain,
+    let missing = matches.get_flag("missing");
+    let partial = matches.get_flag("partial");
+    let steps = matches.get_one::<usize>("steps-at-most");
+    match judging_of(missing, partial, steps) {
+        Ok(judging) => Ok(Line {
+            job: Job::Check(Telling {
+                terms,
+                warn,
+                explain,
+                missing: judging,
+            }),
+            files,
+            world: None,
         }),
-        files,
-        world: None,
-    })
+        Err(misuse) => Err(LineFault::Misuse(misuse)),
+    }
+}
+
+// How calls are judged where `--missing`, `--partial` and a number of steps are given or not, or why these don't go together.
+fn judging_of(missing: bool, partial: bool, steps: Option<usize>) -> Result<Option<Judging>, Misuse>
+    ensures { result ≡ the_judging_of missing partial steps }
+{
+    if !missing {
+        return if partial || steps.is_some() {
+            Err(Misuse::JudgesNothing)
+        } else {
+            Ok(None)
+        };
+    }
+    Ok(Some(Judging {
+        partial,
+        steps: steps.unwrap_or(10_000_000),
+    }))
 }
 
 fn blocks_line(alloc: Global, matches: &ArgMatches<'_>) -> Result<Line, AllocError>
@@ -448,7 +513,7 @@ fn fmt_line(alloc: Global, matches: &ArgMatches<'_>) -> Result<Line, LineFault>
     requires { FillsRules fmt_rules (rows_of (found_of matches.now)) }
     ensures files { IfOk result (λ line. HasFiles line.job (vec_len line.files)) }
     ensures says { IfOk result (λ line. SaysLine (codes "fmt") (rows_of (found_of matches.now)) line) }
-    ensures misused { IfErr result (IsMisused (rows_of (found_of matches.now))) }
+    ensures misused { IfErr result (IsMisused (codes "fmt") (rows_of (found_of matches.now))) }
 {
     let Some(width) = matches.get_one::<u32>("width") else {
         unreachable!()

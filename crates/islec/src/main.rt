@@ -8,6 +8,7 @@ pub mod disk;
 pub mod explain;
 pub mod format;
 pub mod line;
+pub mod missing;
 pub mod perform;
 pub mod program;
 pub mod serve;

@@ -383,11 +383,12 @@ fn tell<W: Write>(
     files: &Files,
     writer: &mut W,
 ) -> Result<Status, ServeFault>
+    requires { IsCompiled program.now }
     ensures status { IfOk result (λ status. status ≡ Status.AllWell) }
-    ensures written { OnOk result ((text : List ℕ) × TellsChecked program.now telling text
+    ensures written { OnOk result ((text : List ℕ) × TellsChecked files.now program.now telling text
         × Appends (W.contents writer.old) (W.contents writer.new) text) }
     ensures cut { IfErr result (λ fault. fault ≢ ServeFault.Memory → (text : List ℕ)
-        × TellsChecked program.now telling text × AppendsBeginning (W.contents writer.old) (W.contents writer.new) text) }
+        × TellsChecked files.now program.now telling text × AppendsBeginning (W.contents writer.old) (W.contents writer.new) text) }
     ensures memory { IfErr result (λ fault. fault ≡ ServeFault.Memory → Keeps
         (W.contents writer.old) (W.contents writer.new)) }
     ensures fault { IfErr result (λ fault. fault ≢ ServeFault.Read) }
@@ -404,9 +405,10 @@ fn checked_text(
     program: &Program,
     files: &Files,
 ) -> Result<String, AllocError>
-    ensures { IfOk result (λ text. TellsChecked program.now telling (string_bytes text)) }
+    requires { IsCompiled program.now }
+    ensures { IfOk result (λ text. TellsChecked files.now program.now telling (string_bytes text)) }
 {
-    let mut text = program_text(alloc, program, telling)?;
+    let mut text = program_text(alloc, program, files, telling)?;
     if !telling.warn {
         return Ok(text);
     }

@@ -30,7 +30,7 @@ use std::{env, io};
 enum Unbegun {
     /// The words are no command, or ask for help or the version.
     Usage(clap::Error),
-    /// Options of `fmt` that don't go together.
+    /// Options that don't go together.
     Misused(Misuse),
     /// A word isn't UTF-8.
     NotText,
@@ -302,7 +302,7 @@ fn cannot_read<W: Write>(name: &str, cause: &str, output: &mut W) -> Status
     Status::InputOutput
 }
 
-// Tells why options of `fmt` don't go together, and gives the exit status.
+// Tells why options don't go together, and gives the exit status.
 fn tell_misuse<W: Write>(misuse: Misuse, output: &mut W) -> Status
     ensures told { (result ≡ Status.InputOutput)
         ⊎ ((result ≡ Status.Usage) × Appends (W.contents output.old) (W.contents output.new) (misuse_text misuse)) }
@@ -321,5 +321,6 @@ fn misuse_line(misuse: Misuse) -> &'static str
         Misuse::Loses => "error: --diff and --write need --keep, so that nothing is lost\n",
         Misuse::WritesAndTells => "error: --write can't be used with --check or --diff\n",
         Misuse::WritesInput => "error: standard input can't be written in place\n",
+        Misuse::JudgesNothing => "error: --partial and --steps-at-most need --missing\n",
     }
 }

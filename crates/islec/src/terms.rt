@@ -1,9 +1,12 @@
 //! What a check writes of an accepted program.
 ghost use Rattle.std.specs.Prelude.{IfOk, string_bytes};
-ghost use Rattle.islec.specs.Terms.{TellsRuns, IsTermLine, AreTermLines, TellsProgram, NotesTypes};
+ghost use Rattle.isle_calls.specs.TreeCalls.{IsCompiled};
+ghost use Rattle.islec.specs.Terms.{TellsRuns, IsTermLine, AreTermLines, TellsProgram, TellsTerms, NotesTypes};
 
 use crate::explain;
+use crate::missing::{Judging, calls_text};
 use isle_run::{Program, TermId};
+use isle_syntax::files::Files;
 use std::alloc::{AllocError, Global};
 
 /// What a check tells of accepted files, beside that they are.
@@ -15,6 +18,8 @@ pub struct Telling {
     pub warn: bool,
     /// Below a term that can't be run, why.
     pub explain: bool,
+    /// Calls that no rule matches, where they are looked for, so.
+    pub missing: Option<Judging>,
 }
 
 /// Whether a term can be run, in words.
@@ -75,19 +80,37 @@ fn types_note(program: &Program) -> &str
     }
 }
 
-/// What a check writes of an accepted program, with its terms where they are asked for.
+/// The lines of the terms with rules, where they are asked for.
+fn asked_lines(
+    alloc: Global,
+    program: &Program,
+    asked: bool,
+    explain: bool,
+) -> Result<String, AllocError>
+    ensures { IfOk result (λ lines. TellsTerms program.now asked explain (string_bytes lines)) }
+{
+    if asked {
+        term_lines(alloc, program, explain, program.terms_with_rules())
+    } else {
+        Ok(String::new(alloc))
+    }
+}
+
+/// What a check writes of an accepted program, with its terms and with calls that no rule matches, where they are asked for.
 pub fn program_text(
     alloc: Global,
     program: &Program,
+    files: &Files,
     telling: Telling,
 ) -> Result<String, AllocError>
-    ensures { IfOk result (λ text. TellsProgram program.now telling (string_bytes text)) }
+    requires { IsCompiled program.now }
+    ensures { IfOk result (λ text. TellsProgram files.now program.now telling (string_bytes text)) }
 {
+    let lines = asked_lines(alloc, program, telling.terms, telling.explain)?;
+    let calls = calls_text(alloc, program, files, telling.missing)?;
     let mut text = String::from_str(alloc, "accepted\n")?;
     text.push_str(types_note(program))?;
-    if telling.terms {
-        let lines = term_lines(alloc, program, telling.explain, program.terms_with_rules())?;
-        text.push_str(lines.as_str())?;
-    }
+    text.push_str(lines.as_str())?;
+    text.push_str(calls.as_str())?;
     Ok(text)
 }

@@ -109,19 +109,22 @@ fn before_kept(old: &[Line<'_>], new: &[Line<'_>]) -> (usize, usize)
     (old.len(), new.len())
 }
 
-/// What becomes of the next line of one of two texts, by how many bytes that aren't white space stand before each.
+/// What becomes of the next line of one of two texts, by how many bytes that aren't white space stand before each: where fewer stand before one, that
+/// goes on. Where as many do, the same line stays, and of different ones a blank one goes first.
 fn next_mark(old: &Line<'_>, new: &Line<'_>, old_weight: usize, new_weight: usize) -> Mark
     ensures { result ≡ Kept → old.now.text.now ≡ new.now.text.now }
 {
     if old_weight == new_weight && old.text == new.text {
         Mark::Kept
+    } else if old_weight < new_weight {
+        Mark::Removed
+    } else if new_weight < old_weight {
+        Mark::Added
     } else if old.weight == 0 {
         Mark::Removed
     } else if new.weight == 0 {
         Mark::Added
-    } else if old_weight <= new_weight {
-        Mark::Removed
     } else {
-        Mark::Added
+        Mark::Removed
     }
 }

@@ -51,9 +51,9 @@ BranchIs sites rows d old new Covered =
 BranchIs sites rows d old new Missing = MissesUnder new rows × Extends new old
 BranchIs sites rows d old new Undecided = Unit {0}
 
--- The last test of a site that has all its tests is told to pass: two of them haven't failed, or one passes.
+-- The last open test of those of which each value of a site passes one is told to pass: two of them haven't failed, or one passes.
 abbrev pub IsForced : Sites → List Fact → Demand → Type 0
-IsForced sites facts (Passes s t) = (n : ℕ) → all_tests sites s.0 ≡ Some n → AreOpen facts s.0 n ⊎ IsPassed facts s.0
+IsForced sites facts (Passes s t) = (ts : List ℕ) → all_tests sites s.0 ≡ Some ts → AreOpen facts s.0 ts ⊎ IsPassed facts s.0
 IsForced sites facts (Same a b) = Unit {0}
 
 -- What is left where a demand fails whose site has a value: nothing, where that can't be.

@@ -1,5 +1,5 @@
 -- Rules as lists of demands, and what is left of them.
-use Rattle.std.specs.Prelude.{◌≡◌, ◌+◌, ◌==◌, ◌&&◌, not, false, ℕ, Bool, List, [], ◌∷◌, IsTrue, Contains, if◌then◌else◌}
+use Rattle.std.specs.Prelude.{◌≡◌, ◌==◌, ◌&&◌, not, false, ℕ, Bool, List, [], ◌∷◌, IsTrue, Contains, if◌then◌else◌}
 use Rattle.std.specs.List.{filter, list_any}
 use Rattle.isle_missing.specs.declared.demand.Demand.{Demand}
 use Rattle.isle_missing.specs.declared.demand.Demand.TheVariants.{Passes, Same}
@@ -42,15 +42,14 @@ where_holds d (row ∷ rows) = if is_denied d row then where_holds d rows else w
 abbrev pub where_fails : Demand → List (List Demand) → List (List Demand)
 where_fails d rows = filter (λ row. not (has_demand d row)) rows
 
--- that both sites pass one of these tests of which only one value passes each, counted from a number
-abbrev pub apart_from : ℕ → ℕ → ℕ → List Bool → List (List Demand)
-apart_from a b t [] = []
-apart_from a b t (single ∷ rest) =
-    if single then (passes a t ∷ passes b t ∷ []) ∷ apart_from a b (t + 1) rest else apart_from a b (t + 1) rest
+-- that both sites pass a test, for each of these
+abbrev pub apart_by : ℕ → ℕ → List ℕ → List (List Demand)
+apart_by a b [] = []
+apart_by a b (t ∷ rest) = (passes a t ∷ passes b t ∷ []) ∷ apart_by a b rest
 
 -- What two sites that aren't equal never do: that both pass a test that only one value passes.
 abbrev pub apart : Sites → ℕ → ℕ → List (List Demand)
-apart sites a b = apart_from a b 0 (single_tests sites a)
+apart sites a b = apart_by a b (single_tests sites a)
 
 -- what there is to ask: the first demand of some rule, which has no other if it is alone
 abbrev pub IsChoice : List (List Demand) → Choice → Type 0

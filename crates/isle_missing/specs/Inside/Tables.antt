@@ -1,24 +1,24 @@
 -- The facts that are so where each site passes the test that a table has for it.
-use Rattle.std.specs.Prelude.{◌≡◌, ◌==◌, ◌&&◌, not, nat_lt, ℕ, Bool, true, false, List, Option, Some, None, slice_get, if◌then◌else◌}
+use Rattle.std.specs.Prelude.{◌≡◌, ◌==◌, ◌&&◌, not, ℕ, Bool, true, false, List, Option, Some, None, slice_get, if◌then◌else◌}
 use Rattle.std.specs.List.{list_all}
 use Rattle.isle_missing.specs.declared.demand.Demand.{Demand}
 use Rattle.isle_missing.specs.declared.demand.Demand.TheVariants.{Passes, Same}
 use Rattle.isle_missing.specs.declared.facts.Fact.{Fact}
 use Rattle.isle_missing.specs.declared.ids.TestId.{TestId}
-use Rattle.isle_missing.specs.Sites.{Sites, all_tests, is_single}
+use Rattle.isle_missing.specs.Sites.{Sites, all_tests, is_listed, is_single}
 
 -- the test that each site passes, where it passes one
 abbrev pub Table : Type 0
 Table = List (Option TestId)
 
--- the test that is listed
-abbrev pub listed : Option (Option TestId) → Option TestId
-listed None = None
-listed (Some test) = test
+-- the test that stands at a place of a table
+abbrev pub placed : Option (Option TestId) → Option TestId
+placed None = None
+placed (Some test) = test
 
 -- the test that a site passes by a table
 abbrev pub test_at : Table → ℕ → Option TestId
-test_at table s = listed (slice_get table s)
+test_at table s = placed (slice_get table s)
 
 -- whether this is the test
 abbrev pub is_test : Option TestId → ℕ → Bool
@@ -43,15 +43,15 @@ is_so sites table f = if f.holds then is_held sites table f.demand else not (is_
 abbrev pub are_so : Sites → Table → List Fact → Bool
 are_so sites table facts = list_all (is_so sites table) facts
 
--- whether a test is one of so many, where these are all
-abbrev pub is_below : Option TestId → Option ℕ → Bool
-is_below o None = true
-is_below None (Some n) = false
-is_below (Some t) (Some n) = nat_lt t.0 n
+-- whether a test is one of these, where they are known
+abbrev pub is_among : Option TestId → Option (List ℕ) → Bool
+is_among o None = true
+is_among None (Some ts) = false
+is_among (Some t) (Some ts) = is_listed ts t.0
 
--- each site passes one of its tests, where these are all
+-- each site passes one of the tests of which each of its values does, where these are known
 abbrev pub HaveTests : Sites → Table → Type 0
-HaveTests sites table = (s : ℕ) → is_below (test_at table s) (all_tests sites s) ≡ true
+HaveTests sites table = (s : ℕ) → is_among (test_at table s) (all_tests sites s) ≡ true
 
 -- the facts are so by some table
 abbrev pub ArePossible : Sites → List Fact → Type 0

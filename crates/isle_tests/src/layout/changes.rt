@@ -9,6 +9,10 @@ pub const CHANGES: &str = "
 | 1\n2\n3\n4\n\n5\n6\n7\n8\n ⇒ 1\n2\n3\n4\n5\n6\n7\n8\n → --- n\n+++ n\n@@ -2,7 +2,6 @@\n 2\n 3\n 4\n-\n 5\n 6\n 7
 | (a (b))\n(c)\n ⇒ (a\n    (b))\n(c)\n → --- n\n+++ n\n@@ -1,2 +1,3 @@\n-(a (b))\n+(a\n+    (b))\n (c)
 | a\n  b\nc\n ⇒ a b c\n → --- n\n+++ n\n@@ -1,3 +1 @@\n-a\n-  b\n-c\n+a b c
+| a  b\n\n\nc\n ⇒ a b\n\nc\n → --- n\n+++ n\n@@ -1,4 +1,3 @@\n-a  b\n+a b\n \n-\n c
+| a  b\n\nc\n ⇒ a b\n\n\nc\n → --- n\n+++ n\n@@ -1,3 +1,4 @@\n-a  b\n+a b\n \n+\n c
+| a\nb\n\nc\n ⇒ a b\n\nc\n → --- n\n+++ n\n@@ -1,4 +1,3 @@\n-a\n-b\n+a b\n \n c
+| a b\n\nc\n ⇒ a\nb\n\nc\n → --- n\n+++ n\n@@ -1,3 +1,4 @@\n-a b\n+a\n+b\n \n c
 | a\nb ⇒ a\nb\n → --- n\n+++ n\n@@ -1,2 +1,2 @@\n a\n-b\n\\ No newline at end of file\n+b
 | a\nb\n ⇒ a\nb → --- n\n+++ n\n@@ -1,2 +1,2 @@\n a\n-b\n+b\n\\ No newline at end of file
 | \na ⇒ a → --- n\n+++ n\n@@ -1,2 +1 @@\n-\n a\n\\ No newline at end of file

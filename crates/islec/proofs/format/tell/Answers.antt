@@ -5,4 +5,4 @@ use Rattle.islec.proofs.format.tell.Goals as goal
 
 pub told_of-requires : goal.told_of-requires
 told_of-requires g c = sym (length-map c.args.prints.now string_bytes)
-    ∙ as_many_prints c.args.printing.keep c.args.printing.width 0 c.args.files.now (map string_bytes c.args.prints.now) c.requires
+    ∙ as_many_prints c.args.printing.keep c.args.printing.width 0 c.args.files.now (map string_bytes c.args.prints.now) c.requires.prints

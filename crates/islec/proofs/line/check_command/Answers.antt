@@ -11,4 +11,7 @@ returns c =
     let one = adds _ _ _ _ _ start c.terms.ensures c.in_ok-arg.ensures in
     let two = adds _ _ _ _ _ one c.warn.ensures c.in_ok-arg-2.ensures in
     let three = adds _ _ _ _ _ two c.explain.ensures c.in_ok-arg-3.ensures in
-    IfOk-weaker c.arg-4.result _ _ (λ new added. adds _ new _ _ _ three c.rule_files.ensures added) c.arg-4.ensures
+    let four = adds _ _ _ _ _ three c.missing.ensures c.in_ok-arg-4.ensures in
+    let five = adds _ _ _ _ _ four c.partial.ensures c.in_ok-arg-5.ensures in
+    let six = adds _ _ _ _ _ five c.steps_at_most.ensures c.in_ok-arg-6.ensures in
+    IfOk-weaker c.arg-7.result _ _ (λ new added. adds _ new _ _ _ six c.rule_files.ensures added) c.arg-7.ensures

@@ -1,4 +1,4 @@
-use Rattle.std.proofs.Common.{◌≡◌, refl, sym, ap, ◌∙◌, codes, Bool, List, [], Option, map, string_bytes, String, unwrap_or}
+use Rattle.std.proofs.Common.{◌≡◌, inl, refl, sym, ap, ◌∙◌, codes, Bool, List, [], Option, map, string_bytes, String, unwrap_or}
 use Rattle.std.specs.Global.{Global}
 use Rattle.std.specs.List.{list_any}
 use Rattle.std.specs.Str.{bytes_eq}
@@ -54,7 +54,7 @@ returns-in-Some-misuse_of-clause-misused c =
     ∙ sym c.has_input-input.ensures in
     let all : misuse_in rows ≡ misuse_of c.get_flag-keep.result c.get_flag-check.result c.get_flag-diff.result c.get_flag-write.result
     c.has_input-input.result = (λ i. misuse_of (keep i) (check i) (diff i) (write i) (input i)) in
-    all ∙ sym c.misuse_of.ensures ∙ c.in-Some-misuse_of.is
+    inl (refl, all ∙ sym c.misuse_of.ensures ∙ c.in-Some-misuse_of.is)
 
 pub returns-clause-says : goal.returns-clause-says
 returns-clause-says c =

@@ -45,7 +45,16 @@ returns-in-Some-subcommand_matches-clause-reads g c =
     let parsed = parses c.in_ok-command.command words m c.in_ok-command.ensures c.in_ok-matches.ensures.ok.2 c.in_ok-matches.ensures.kinds in
     let rows = rows_of (found_of c.in-Some-subcommand_matches.check.now) in
     let met = met_rows m (codes "check") rows (c.in-Some-subcommand_matches.ensures.found.0 refl) c.in-Some-subcommand_matches.ensures.rows in
-    reads_line words m (codes "check") rows c.in_ok-check_line.field-0 parsed met c.in_ok-check_line.ensures.says
+    IfOk-weaker c.check_line.result _ _ (λ line says. reads_line words m (codes "check") rows line parsed met says) c.check_line.ensures.says
+
+pub returns-in-Some-subcommand_matches-clause-refused : goal.returns-in-Some-subcommand_matches-clause-refused
+returns-in-Some-subcommand_matches-clause-refused g c =
+    let m = c.in_ok-matches.matches in
+    let words = map g.S.AsStr.text c.args.words.now in
+    let parsed = parses c.in_ok-command.command words m c.in_ok-command.ensures c.in_ok-matches.ensures.ok.2 c.in_ok-matches.ensures.kinds in
+    let rows = rows_of (found_of c.in-Some-subcommand_matches.check.now) in
+    let met = met_rows m (codes "check") rows (c.in-Some-subcommand_matches.ensures.found.0 refl) c.in-Some-subcommand_matches.ensures.rows in
+    misuse_refuses words m (codes "check") rows c.check_line.result parsed met c.check_line.ensures.misused
 
 pub blocks_line-requires : goal.blocks_line-requires
 blocks_line-requires g c =
@@ -90,7 +99,7 @@ returns-clause-refused g c =
     let parsed = parses c.in_ok-command.command words m c.in_ok-command.ensures c.in_ok-matches.ensures.ok.2 c.in_ok-matches.ensures.kinds in
     let rows = rows_of (found_of c.in-Some-subcommand_matches-3.fmt.now) in
     let met = met_rows m (codes "fmt") rows (c.in-Some-subcommand_matches-3.ensures.found.0 refl) c.in-Some-subcommand_matches-3.ensures.rows in
-    misuse_refuses words m rows c.fmt_line.result parsed met c.fmt_line.ensures.misused
+    misuse_refuses words m (codes "fmt") rows c.fmt_line.result parsed met c.fmt_line.ensures.misused
 
 pub unreachable-requires : goal.unreachable-requires
 unreachable-requires g c =

@@ -1,6 +1,7 @@
-use Rattle.std.proofs.Common.{◌≡◌, ◌∙◌, inl, map, sym}
+use Rattle.std.proofs.Common.{◌≡◌, ◌∙◌, inl, map, subst, sym}
 use Rattle.std.proofs.lemmas.Result.{IfOk-weaker}
 use Rattle.isle_ast.specs.Positions.Files.{source_file}
+use Rattle.isle_program.specs.Compiled.{AreAccepted, IsProgramOf}
 use Rattle.islec.specs.declared.status.Status.TheVariants.{AllWell, TextsRefused}
 use Rattle.islec.proofs.RunLemmas.{faults_by, refusal_uncheckable, accepts_by, tells_cut}
 use Rattle.islec.proofs.perform.check.Goals as goal
@@ -35,16 +36,21 @@ returns-in-Err-Faults-clause-cut g c =
 
 pub returns-in-Ok-clause-accepted : goal.returns-in-Ok-clause-accepted
 returns-in-Ok-clause-accepted g c =
-    let same : c.in_ok-clone.field-0.value ≡ map source_file c.args.texts.items =
-    c.in_ok-clone.ensures.cases ∙ c.in_ok-files.ensures.ok ∙ c.in_ok-from_names_and_contents.ensures in
-    accepts_by c.in_ok-clone.field-0.value (map source_file c.args.texts.items) same c.in-Ok.program c.in-Ok.ensures.compiled
-    c.in-Ok.ensures.accepted c.args.telling
+    let same : c.deref.result.now ≡ map source_file c.args.texts.items =
+    c.deref.ensures ∙ c.in_ok-files.ensures.ok ∙ c.in_ok-from_names_and_contents.ensures in
+    let alike = c.in_ok-clone.ensures.cases ∙ sym c.deref.ensures in
+    accepts_by c.deref.result.now (map source_file c.args.texts.items) same c.in-Ok.program
+    (subst (λ l. IsProgramOf l c.in-Ok.program) alike c.in-Ok.ensures.compiled) (subst AreAccepted alike c.in-Ok.ensures.accepted) c.args.telling
     (g.W.Write.contents c.args.writer.now) (g.W.Write.contents c.tell-ended.new.writer) c.tell-ended.result c.tell-ended.ensures.written
 
 pub returns-in-Ok-clause-cut : goal.returns-in-Ok-clause-cut
 returns-in-Ok-clause-cut g c =
-    let same : c.in_ok-clone.field-0.value ≡ map source_file c.args.texts.items =
-    c.in_ok-clone.ensures.cases ∙ c.in_ok-files.ensures.ok ∙ c.in_ok-from_names_and_contents.ensures in
-    tells_cut c.in_ok-clone.field-0.value (map source_file c.args.texts.items) same c.in-Ok.program c.in-Ok.ensures.compiled
-    c.in-Ok.ensures.accepted c.args.telling
+    let same : c.deref.result.now ≡ map source_file c.args.texts.items =
+    c.deref.ensures ∙ c.in_ok-files.ensures.ok ∙ c.in_ok-from_names_and_contents.ensures in
+    let alike = c.in_ok-clone.ensures.cases ∙ sym c.deref.ensures in
+    tells_cut c.deref.result.now (map source_file c.args.texts.items) same c.in-Ok.program
+    (subst (λ l. IsProgramOf l c.in-Ok.program) alike c.in-Ok.ensures.compiled) (subst AreAccepted alike c.in-Ok.ensures.accepted) c.args.telling
     (g.W.Write.contents c.args.writer.now) (g.W.Write.contents c.tell-ended.new.writer) c.tell-ended.result c.tell-ended.ensures.cut
+
+pub tell-ended-requires : goal.tell-ended-requires
+tell-ended-requires g c = record { files = _; is = c.in-Ok.ensures.compiled }

@@ -1,0 +1,5 @@
+use Rattle.isle_run.proofs.Covering.Covered as its
+use Rattle.isle_run.proofs.laws.covered_calls_are_answered.Goals as goal
+
+pub returns : goal.returns
+returns c = record { by_trees = its.covered_calls_are_answered_by_trees; by_rules = its.covered_calls_are_answered_by_rules }
