@@ -1,8 +1,7 @@
 //! Worlds whose answers their declarations don't allow.
-use isle_ast::files::Files;
-use isle_run::{Answer, Called, Effect, Program, Value, World, call, call_plain, compile, query};
+use crate::programs::program_of;
+use isle_run::{Answer, Called, Effect, Program, Value, World, call, call_plain, query};
 use std::alloc::{AllocError, Global};
-use std::rc::Rc;
 use std::test::Fail;
 
 /// A world that answers all constructors alike, and all extractors, and counts the effects.
@@ -78,21 +77,6 @@ const RULES: &str = "(type Name (primitive Name)) (type Op (enum Stop (Add (a i8
     (decl first (Op) i8) (rule (first (op a _)) a)
     (decl both (i8 Name) Op) (extern extractor infallible both both)
     (decl partial left (Op) i8) (rule (left (both a _)) a)";
-
-/// The program of the rules.
-fn program(alloc: Global) -> Result<Program, AllocError> {
-    let texts = vec![in alloc;
-        (
-            String::from_str(alloc, "a.isle")?,
-            String::from_str(alloc, RULES)?
-        ),
-    ]?;
-    let files = Rc::new(alloc, Files::from_names_and_contents(alloc, texts)?)?;
-    match compile(alloc, files) {
-        Ok(program) => Ok(program),
-        Err(_refused) => Err(AllocError),
-    }
-}
 
 /// An integer and opaque values behind it, so many in all.
 fn outputs(alloc: Global, first: i128, count: u64) -> Result<Vec<Value>, AllocError> {
@@ -230,7 +214,7 @@ fn first_mistake(alloc: Global, program: &Program) -> Result<String, Fail> {
 
 #[test]
 fn answers_are_judged(rt: HostRuntime) -> Result<(), Fail> {
-    let program = program(rt.alloc())?;
+    let program = program_of(rt.alloc(), RULES)?;
     assert_eq!(rt; first_mistake(rt.alloc(), &program)?.as_str(), "");
     Ok(())
 }
