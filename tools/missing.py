@@ -32,6 +32,11 @@ def trees(text):
     return stack[0]
 
 
+def type_of(field):
+    """The type of a field, with a name or without."""
+    return field if isinstance(field, str) else field[1]
+
+
 class Texts:
     """What accepted texts declare: types, terms and constants."""
 
@@ -51,7 +56,7 @@ class Texts:
             body = definition[-1]
             variants = [[definition[1], *body[1:]]] if body[0] == "struct" else [
                 [f"{definition[1]}.{part[0]}", *part[1:]] if isinstance(part, list) else [f"{definition[1]}.{part}"] for part in body[1:]]
-            self.types[definition[1]] = None if body[0] == "primitive" else {name: [field[1] for field in fields] for name, *fields in variants}
+            self.types[definition[1]] = None if body[0] == "primitive" else {name: [type_of(field) for field in fields] for name, *fields in variants}
         elif definition[0] == "decl":
             self.terms[definition[-3]] = (definition[-2], "partial" in definition[1:-3])
         elif definition[:2] == ["extern", "const"]:
